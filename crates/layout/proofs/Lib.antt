@@ -1,0 +1,4 @@
+pub mod Numbered
+pub mod Reading
+pub mod Fielded
+pub mod Keyed
