@@ -31,8 +31,11 @@ rest-bytes b bs h = back (ltb b 256) (allBytes bs) h
     back true q h = h
     back false q h = cc
 
+pub tested-before : (b : ℕ) (bs : Bytes) → ltb b 256 ≡ true → EachByte bs → EachByte (b ∷ bs)
+tested-before b bs h k = both (ltb b 256) (allBytes bs) h k
+
 pub byte-before : (b : ℕ) (bs : Bytes) → b < 256 → EachByte bs → EachByte (b ∷ bs)
-byte-before b bs h k = both (ltb b 256) (allBytes bs) (lt-ltb b 256 h) k
+byte-before b bs h k = tested-before b bs (lt-ltb b 256 h) k
 
 pub bytes-append : (xs ys : Bytes) → EachByte xs → EachByte ys → EachByte (xs ++ ys)
 bytes-append [] ys h k = k
@@ -50,6 +53,9 @@ pub bytes-drop : (n : ℕ) (xs : Bytes) → EachByte xs → EachByte (drop n xs)
 bytes-drop zero xs h = h
 bytes-drop (suc n) [] h = refl
 bytes-drop (suc n) (x ∷ xs) h = bytes-drop n xs (rest-bytes x xs h)
+
+pub bytes-push : (xs : Bytes) (b : ℕ) → EachByte xs → b < 256 → EachByte (xs ++ (b ∷ []))
+bytes-push xs b h k = bytes-append xs (b ∷ []) h (byte-before b [] k refl)
 
 -- ---- numbers
 

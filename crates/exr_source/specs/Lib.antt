@@ -1,0 +1,5 @@
+pub mod Requests
+pub mod Fills
+pub mod Keeping
+pub mod Properly
+pub mod Peeks
