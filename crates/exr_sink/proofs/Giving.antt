@@ -10,7 +10,7 @@ use Rattle.std.specs.declared.result.Result.{Result}
 use Rattle.std.specs.declared.result.Result.the-variants.{Ok, Err}
 use Rattle.exr_error.specs.declared.stop.Full.{Full}
 use Rattle.layout.specs.Numbers.{Bytes}
-use Rattle.layout.specs.Streams.{SinkMeaning, sink, with}
+use Rattle.layout.specs.Streams.{SinkMeaning, sinkOf, with}
 use Rattle.exr_sink.specs.Gifts.{full, allOr, Took, Refused, GaveAll}
 use Rattle.exr_source.proofs.Filling.{take-add, lent}
 
@@ -37,7 +37,7 @@ module _ (m : SinkMeaning) (bs : Bytes) (f : ℕ) (m′ : SinkMeaning) (i : Givi
       record {
         given = omega (arith, i .given, t .given, rest-length);
         room = omega (arith, i .room, t .room, room-is);
-        after = t .after ∙ ap (with k (lent f bs)) (i .after) ∙ ap (λ x. sink x (m .room - f - k) (m .stop)) joined ∙ ap (λ n. sink (m .taken ++ take (f + k) bs) n (m .stop)) left;
+        after = t .after ∙ ap (with k (lent f bs)) (i .after) ∙ ap (λ x. sinkOf x (m .room - f - k) (m .stop)) joined ∙ ap (λ n. sinkOf (m .taken ++ take (f + k) bs) n (m .stop)) left;
       }
 
   pub giving-refused : (e : Full) (m″ : SinkMeaning) (r : Result (Unit {0}) Full) → Refused m′ (lent f bs) e m″ → r ≡ Err e → GaveAll m bs r m″

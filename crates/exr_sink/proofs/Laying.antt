@@ -8,7 +8,7 @@ use lib.ListN.{length, take, drop}
 use Rattle.std.proofs.shelf.Lists.{length-take, length-drop, length-append, length-take-le, drop-drop}
 use Rattle.std.proofs.shelf.Parts.{take-putMid, drop-putMid}
 use Rattle.layout.specs.Numbers.{Bytes}
-use Rattle.layout.specs.Streams.{SinkMeaning, sink, with}
+use Rattle.layout.specs.Streams.{SinkMeaning, sinkOf, with}
 
 module _ {X : Type 0} (at k : ℕ) (buffer part : List X) (within : at + k ≤ length buffer) (fits : length part ≡ k) where
   pub put-length : length (putMid at ((at + k) - at) buffer part) ≡ length buffer
@@ -37,7 +37,7 @@ module _ (at k : ℕ) (buffer bs part : Bytes) (within : at + k ≤ length buffe
   pub written-behind : drop (at + k) written ≡ drop (at + k) buffer
   written-behind = put-behind at k buffer part within part-fits
 
-  pub written-meaning : (n n′ s : ℕ) → n′ ≡ n → sink (take (at + k) written) (n′ - (at + k)) s ≡ with k bs (sink (take at buffer) (n - at) s)
+  pub written-meaning : (n n′ s : ℕ) → n′ ≡ n → sinkOf (take (at + k) written) (n′ - (at + k)) s ≡ with k bs (sinkOf (take at buffer) (n - at) s)
   written-meaning n n′ s h =
       let rest : n′ - (at + k) ≡ n - at - k = omega arith in
-      ap (λ x. sink x (n′ - (at + k)) s) (put-front at k buffer part within part-fits ∙ ap (λ x. take at buffer ++ x) part-is) ∙ ap (λ r. sink (take at buffer ++ take k bs) r s) rest
+      ap (λ x. sinkOf x (n′ - (at + k)) s) (put-front at k buffer part within part-fits ∙ ap (λ x. take at buffer ++ x) part-is) ∙ ap (λ r. sinkOf (take at buffer ++ take k bs) r s) rest

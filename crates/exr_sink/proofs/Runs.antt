@@ -1,5 +1,5 @@
 -- One run of bytes given after another.
-use mathlib.Core.Path.{_≡_, refl, sym, ap, _∙_}
+use mathlib.Core.Path.{_≡_, refl, sym, ap, subst, _∙_}
 use mathlib.Core.Bool.{Bool, true, false}
 use mathlib.Core.List.{List, [], _∷_, _++_, append-assoc}
 use Prim.Native.Nat.{ℕ, _+_, _-_, _<_, _≤_, min}
@@ -14,9 +14,13 @@ use Rattle.std.specs.declared.result.Result.{Result}
 use Rattle.std.specs.declared.result.Result.the-variants.{Ok, Err}
 use Rattle.exr_error.specs.declared.stop.Full.{Full}
 use Rattle.layout.specs.Numbers.{Bytes}
-use Rattle.layout.specs.Streams.{SinkMeaning, sink, with}
+use Rattle.layout.specs.Streams.{SinkMeaning, sinkOf, with}
 use Rattle.exr_sink.specs.Gifts.{full, allOr, GaveAll}
 use Rattle.exr_source.proofs.Filling.{take-add}
+
+-- the same bytes
+pub gave-same : (m : SinkMeaning) (bs cs : Bytes) (r : Result (Unit {0}) Full) (m′ : SinkMeaning) → bs ≡ cs → GaveAll m bs r m′ → GaveAll m cs r m′
+gave-same m bs cs r m′ e g = subst (λ (x : Bytes). GaveAll m x r m′) e g
 
 -- nothing given is taken whole
 pub gave-none : (m : SinkMeaning) → GaveAll m [] (Ok tt) m
@@ -25,7 +29,7 @@ gave-none m = record {
   after =
       let z : 0 ≡ min 0 (m .room) = omega arith in
       let n : m .room ≡ m .room - 0 = omega arith in
-      ap (λ x. sink x (m .room) (m .stop)) (sym (append-nil (m .taken))) ∙ ap (λ x. sink (m .taken ++ []) x (m .stop)) n ∙ ap (λ k. with k [] m) z;
+      ap (λ x. sinkOf x (m .room) (m .stop)) (sym (append-nil (m .taken))) ∙ ap (λ x. sinkOf (m .taken ++ []) x (m .stop)) n ∙ ap (λ k. with k [] m) z;
 }
 
 -- which way a test went, by what it answered
@@ -40,12 +44,12 @@ err-only false e s p = (refl, cc)
 all-fit : (m : SinkMeaning) (xs : Bytes) (m′ : SinkMeaning) → GaveAll m xs (Ok tt) m′ → length xs ≤ m .room
 all-fit m xs m′ g = leb-true (length xs) (m .room) (ok-only (leb (length xs) (m .room)) (m .stop) (g .answer))
 
-all-taken : (m : SinkMeaning) (xs : Bytes) (m′ : SinkMeaning) → GaveAll m xs (Ok tt) m′ → m′ ≡ sink (m .taken ++ xs) (m .room - length xs) (m .stop)
+all-taken : (m : SinkMeaning) (xs : Bytes) (m′ : SinkMeaning) → GaveAll m xs (Ok tt) m′ → m′ ≡ sinkOf (m .taken ++ xs) (m .room - length xs) (m .stop)
 all-taken m xs m′ g =
     let h : length xs ≤ m .room = all-fit m xs m′ g in
     let n : min (length xs) (m .room) ≡ length xs = omega arith in
     let t : take (length xs) xs ≡ xs = take-all (length xs) xs (omega arith) in
-    g .after ∙ ap (λ k. with k xs m) n ∙ ap (λ x. sink (m .taken ++ x) (m .room - length xs) (m .stop)) t
+    g .after ∙ ap (λ k. with k xs m) n ∙ ap (λ x. sinkOf (m .taken ++ x) (m .room - length xs) (m .stop)) t
 
 -- what comes after bytes that were all taken
 pub gave-on : (m : SinkMeaning) (xs bs : Bytes) (r : Result (Unit {0}) Full) (m′ m″ : SinkMeaning) → GaveAll m xs (Ok tt) m′ → GaveAll m′ bs r m″ → GaveAll m (xs ++ bs) r m″
@@ -63,8 +67,8 @@ gave-on m xs bs r m′ m″ g h =
       after =
         h .after
           ∙ ap (λ x. with (min (length bs) (x .room)) bs x) e
-          ∙ ap (λ x. sink x (m .room - length xs - k) (m .stop)) (append-assoc (m .taken) xs (take k bs) ∙ ap (λ x. m .taken ++ x) t)
-          ∙ ap (λ x. sink (m .taken ++ take (length xs + k) (xs ++ bs)) x (m .stop)) left
+          ∙ ap (λ x. sinkOf x (m .room - length xs - k) (m .stop)) (append-assoc (m .taken) xs (take k bs) ∙ ap (λ x. m .taken ++ x) t)
+          ∙ ap (λ x. sinkOf (m .taken ++ take (length xs + k) (xs ++ bs)) x (m .stop)) left
           ∙ ap (λ x. with x (xs ++ bs) m) n;
     }
 
@@ -79,7 +83,7 @@ gave-short m xs bs e m′ g =
     let t : take (m .room) (xs ++ bs) ≡ take (m .room) xs = take-append-le (m .room) xs bs (omega arith) in
     record {
       answer = g .answer ∙ ap (λ x. allOr x (m .stop)) (sym b);
-      after = g .after ∙ ap (λ x. with x xs m) n ∙ ap (λ x. sink (m .taken ++ x) (m .room - m .room) (m .stop)) (sym t) ∙ ap (λ x. with x (xs ++ bs) m) (sym k);
+      after = g .after ∙ ap (λ x. with x xs m) n ∙ ap (λ x. sinkOf (m .taken ++ x) (m .room - m .room) (m .stop)) (sym t) ∙ ap (λ x. with x (xs ++ bs) m) (sym k);
     }
 
 module _ {X : Type 0} (f : X → Bytes) where

@@ -2,7 +2,7 @@ ghost use mathlib.Core.Path.{_≡_};
 ghost use Prim.Native.Nat.{_-_, _≤_};
 ghost use lib.Dec.{lit≤};
 ghost use lib.ListN.{take};
-ghost use Rattle.layout.specs.Streams.{sink};
+ghost use Rattle.layout.specs.Streams.{sinkOf};
 use crate::sink::Sink;
 use exr_error::stop::Full;
 
@@ -34,7 +34,7 @@ impl Block {
 }
 
 pub impl Sink for Block as BlockSink {
-    ghost means = { λ s. sink (take (s .len) (s .bytes)) (4096 - s .len) 2 };
+    ghost means = { λ s. sinkOf (take (s .len) (s .bytes)) (4096 - s .len) 2 };
 
     ghost proper = { λ _. record { least = lit≤ tt; most = lit≤ tt } };
 

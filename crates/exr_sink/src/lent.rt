@@ -3,7 +3,7 @@ ghost use mathlib.Core.Path.{_≡_};
 ghost use Prim.Native.Nat.{_-_};
 ghost use lib.Dec.{lit≤};
 ghost use lib.ListN.{length, take};
-ghost use Rattle.layout.specs.Streams.{sink};
+ghost use Rattle.layout.specs.Streams.{sinkOf};
 ghost use Rattle.exr_sink.specs.Lent.{LentKept, lent-steady};
 use crate::sink::Sink;
 use exr_error::stop::Full;
@@ -34,7 +34,7 @@ impl<'a> LentBuffer<'a> {
 }
 
 pub impl<'a> Sink for LentBuffer<'a> as LentBufferSink {
-    ghost means = { λ s. sink (take (s .at) (now (s .buffer))) (length (now (s .buffer)) - s .at) 1 };
+    ghost means = { λ s. sinkOf (take (s .at) (now (s .buffer))) (length (now (s .buffer)) - s .at) 1 };
 
     ghost proper = { λ _. record { least = lit≤ tt; most = lit≤ tt } };
 

@@ -10,18 +10,18 @@ use Rattle.std.specs.declared.option.Option.the-variants.{Some, None}
 use Rattle.exr_error.specs.declared.stop.Stop.{Stop}
 use Rattle.exr_error.specs.declared.stop.Stop.the-variants.{End, Device}
 use Rattle.layout.specs.Numbers.{Bytes}
-use Rattle.layout.specs.Streams.{SourceMeaning, source, after, chained, chainedAt}
+use Rattle.layout.specs.Streams.{SourceMeaning, sourceOf, after, chained, chainedAt}
 use Rattle.exr_source.specs.Requests.{stopAt, laid, Given, Stopped, Requested}
 
 given-at : (s : Option ℕ) (bs : Bytes) (n : SourceMeaning) (buffer : Bytes) (k : ℕ) (m′ : SourceMeaning) (buffer′ : Bytes) →
-    Given (source bs s) buffer k m′ buffer′ → Given (chainedAt s bs n) buffer k (chained m′ n) buffer′
+    Given (sourceOf bs s) buffer k m′ buffer′ → Given (chainedAt s bs n) buffer k (chained m′ n) buffer′
 given-at None bs n buffer k m′ buffer′ g =
     let h = g .there in record {
       asked = g .asked;
       there = simp length-append (omega arith);
       some = g .some;
       laid-in = g .laid-in ∙ rw take-append-le;
-      left = ap (λ m. chained m n) (g .left) ∙ ap (λ x. source x (n .stop)) (sym (drop-append-le k bs (n .bytes) h));
+      left = ap (λ m. chained m n) (g .left) ∙ ap (λ x. sourceOf x (n .stop)) (sym (drop-append-le k bs (n .bytes) h));
     }
 given-at (Some d) bs n buffer k m′ buffer′ g =
     record { asked = g .asked; there = g .there; some = g .some; laid-in = g .laid-in; left = ap (λ m. chained m n) (g .left) }
@@ -42,6 +42,6 @@ ended-chain m n e none = ap (λ bs. chainedAt (m .stop) bs n) none ∙ at (m .st
 pub failed-chain : (m n : SourceMeaning) (d : ℕ) → Device d ≡ stopAt (m .stop) → chained m n ≡ m
 failed-chain m n d e = at (m .stop) e
   where
-    at : (s : Option ℕ) → Device d ≡ stopAt s → chainedAt s (m .bytes) n ≡ source (m .bytes) s
+    at : (s : Option ℕ) → Device d ≡ stopAt s → chainedAt s (m .bytes) n ≡ sourceOf (m .bytes) s
     at None e = cc
     at (Some b) e = refl

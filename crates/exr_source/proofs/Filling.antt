@@ -12,7 +12,7 @@ use Rattle.std.specs.declared.result.Result.{Result}
 use Rattle.std.specs.declared.result.Result.the-variants.{Ok, Err}
 use Rattle.exr_error.specs.declared.stop.Stop.{Stop}
 use Rattle.layout.specs.Numbers.{Bytes}
-use Rattle.layout.specs.Streams.{SourceMeaning, source, after}
+use Rattle.layout.specs.Streams.{SourceMeaning, sourceOf, after}
 use Rattle.exr_source.specs.declared.read.Short.{Short}
 use Rattle.exr_source.specs.Requests.{stopAt, laid, Given, Stopped}
 use Rattle.exr_source.specs.Fills.{short, allOr, come, wanted, Filled}
@@ -72,7 +72,7 @@ module _ (m : SourceMeaning) (buffer : Bytes) (f : ℕ) (m′ : SourceMeaning) (
         asked = omega (arith, i .asked, g .asked, lent-length);
         there = omega (arith, i .there, g .there, left-length);
         laid-in = put-rest f buffer′ part ∙ ap (λ x. x ++ part) front-is ∙ ap (λ x. take f (m .bytes) ++ x) part-is ∙ laid-more f k (m .bytes) buffer;
-        left = g .left ∙ ap (after k) (i .left) ∙ ap (λ x. source x (m .stop)) (drop-drop k f (m .bytes));
+        left = g .left ∙ ap (after k) (i .left) ∙ ap (λ x. sourceOf x (m .stop)) (drop-drop k f (m .bytes));
       }
 
   pub filling-stopped : (e : Stop) (m″ : SourceMeaning) (part : Bytes) → Stopped m′ (lent f buffer′) e m″ part → Filled m buffer (Err (record { stop = e; got = f })) m″ (putMid f (length buffer′ - f) buffer′ part)

@@ -3,7 +3,7 @@ ghost use mathlib.Core.Path.{_≡_, refl};
 ghost use mathlib.Core.Bool.{true};
 ghost use Rattle.std.specs.declared.option.Option.the-variants.{None};
 ghost use Rattle.layout.specs.Numbers.{allBytes};
-ghost use Rattle.layout.specs.Streams.{source};
+ghost use Rattle.layout.specs.Streams.{sourceOf};
 use crate::bytes::each_byte;
 use crate::source::Source;
 use exr_error::stop::Stop;
@@ -34,7 +34,7 @@ impl<'a> HeldBytes<'a> {
 }
 
 pub impl<'a> Source for HeldBytes<'a> as HeldBytesSource {
-    ghost means = { λ s. source (now (s .rest)) None };
+    ghost means = { λ s. sourceOf (now (s .rest)) None };
 
     ghost proper = { λ s. record { bytes = s .below; number = refl } };
 

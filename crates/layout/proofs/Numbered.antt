@@ -54,6 +54,11 @@ bytes-drop zero xs h = h
 bytes-drop (suc n) [] h = refl
 bytes-drop (suc n) (x ∷ xs) h = bytes-drop n xs (rest-bytes x xs h)
 
+pub bytes-take : (n : ℕ) (xs : Bytes) → EachByte xs → EachByte (take n xs)
+bytes-take zero xs h = refl
+bytes-take (suc n) [] h = refl
+bytes-take (suc n) (x ∷ xs) h = byte-before x (take n xs) (first-byte x xs h) (bytes-take n xs (rest-bytes x xs h))
+
 pub bytes-push : (xs : Bytes) (b : ℕ) → EachByte xs → b < 256 → EachByte (xs ++ (b ∷ []))
 bytes-push xs b h k = bytes-append xs (b ∷ []) h (byte-before b [] k refl)
 

@@ -16,8 +16,8 @@ pub record SourceMeaning : Type 0 where
   pub bytes : Bytes
   pub stop : Option ℕ
 
-abbrev pub source : Bytes → Option ℕ → SourceMeaning
-source bs s = record { bytes = bs; stop = s }
+abbrev pub sourceOf : Bytes → Option ℕ → SourceMeaning
+sourceOf bs s = record { bytes = bs; stop = s }
 
 -- a device number is from 1 to 255
 abbrev pub isNumbered : Option ℕ → Bool
@@ -31,12 +31,12 @@ pub record Proper (m : SourceMeaning) : Type 0 where
 
 -- the meaning once k bytes have been given
 abbrev pub after : ℕ → SourceMeaning → SourceMeaning
-after k m = source (drop k (m .bytes)) (m .stop)
+after k m = sourceOf (drop k (m .bytes)) (m .stop)
 
 -- two sources, one after the other: the second comes only behind the first's end
 abbrev pub chainedAt : Option ℕ → Bytes → SourceMeaning → SourceMeaning
-chainedAt None bs n = source (bs ++ n .bytes) (n .stop)
-chainedAt (Some d) bs n = source bs (Some d)
+chainedAt None bs n = sourceOf (bs ++ n .bytes) (n .stop)
+chainedAt (Some d) bs n = sourceOf bs (Some d)
 
 abbrev pub chained : SourceMeaning → SourceMeaning → SourceMeaning
 chained m n = chainedAt (m .stop) (m .bytes) n
@@ -44,7 +44,7 @@ chained m n = chainedAt (m .stop) (m .bytes) n
 -- a kept byte stands before what is below
 abbrev pub keptBefore : Option ℕ → SourceMeaning → SourceMeaning
 keptBefore None m = m
-keptBefore (Some b) m = source (b ∷ m .bytes) (m .stop)
+keptBefore (Some b) m = sourceOf (b ∷ m .bytes) (m .stop)
 
 -- ---- sinks
 
@@ -54,8 +54,8 @@ pub record SinkMeaning : Type 0 where
   pub room : ℕ
   pub stop : ℕ
 
-abbrev pub sink : Bytes → ℕ → ℕ → SinkMeaning
-sink bs n s = record { taken = bs; room = n; stop = s }
+abbrev pub sinkOf : Bytes → ℕ → ℕ → SinkMeaning
+sinkOf bs n s = record { taken = bs; room = n; stop = s }
 
 -- a stop number is from 1 to 255
 pub record Stopping (m : SinkMeaning) : Type 0 where
@@ -64,4 +64,4 @@ pub record Stopping (m : SinkMeaning) : Type 0 where
 
 -- the meaning once the first k of some bytes have been taken
 abbrev pub with : ℕ → Bytes → SinkMeaning → SinkMeaning
-with k bs m = sink (m .taken ++ take k bs) (m .room - k) (m .stop)
+with k bs m = sinkOf (m .taken ++ take k bs) (m .room - k) (m .stop)

@@ -1,7 +1,7 @@
 ghost use mathlib.Core.Path.{_≡_};
 ghost use Rattle.std.specs.declared.option.Option.the-variants.{None};
 ghost use Rattle.std.specs.Results.{okPart};
-ghost use Rattle.layout.specs.Streams.{source};
+ghost use Rattle.layout.specs.Streams.{sourceOf};
 ghost use Rattle.exr_source.specs.Fills.{nextOf};
 ghost use Rattle.exr_source.specs.Peeks.{peekMeans, peek-proper, PeekKept, peek-steady, isNext, sansNext};
 use crate::peek::PeekRead;
@@ -64,7 +64,7 @@ impl<S: Source> PeekRead<S> {
     /// answers the stop.
     pub fn skip_if_eq(&mut self, value: u8) -> Result<bool, Stop>
         ensures answer { λ r. ⌜ r ≡ isNext (peekMeans (S·Source .means) (now (self .entry)) .bytes) (peekMeans (S·Source .means) (now (self .entry)) .stop) value ⌝ }
-        ensures left { λ _. ⌜ peekMeans (S·Source .means) (now (self .exit)) ≡ source (sansNext (peekMeans (S·Source .means) (now (self .entry)) .bytes) value) (peekMeans (S·Source .means) (now (self .entry)) .stop) ⌝ }
+        ensures left { λ _. ⌜ peekMeans (S·Source .means) (now (self .exit)) ≡ sourceOf (sansNext (peekMeans (S·Source .means) (now (self .entry)) .bytes) value) (peekMeans (S·Source .means) (now (self .entry)) .stop) ⌝ }
         ensures kept { λ _. ⌜ S·Source .keeps (now (self .entry) .inner) (now (self .exit) .inner) ⌝ }
     {
         let byte = self.peek_u8()?;

@@ -4,7 +4,7 @@ use borrow.Author.Needs.{needs}
 use Rattle.std.proofs.shelf.Lists.{nil-from-length, take-rest}
 use Rattle.std.specs.declared.option.Option.the-variants.{None}
 use Rattle.layout.specs.Numbers.{EachByte}
-use Rattle.layout.specs.Streams.{source}
+use Rattle.layout.specs.Streams.{sourceOf}
 use Rattle.layout.proofs.Numbered.{bytes-drop}
 use Rattle.exr_source.proofs.held.HeldBytesSource.read.Needs as need
 
@@ -29,6 +29,6 @@ returns c = record {
     there = omega arith;
     some = omega arith;
     laid-in = search needs;
-    left = ap (λ bs. source bs None) (take-rest (c .args .self .now .rest .now) (c .min-k .result));
+    left = ap (λ bs. sourceOf bs None) (take-rest (c .args .self .now .rest .now) (c .min-k .result));
   };
 }
