@@ -4,7 +4,9 @@ use mathlib.Core.Path.{_≡_, refl, sym, ap, _∙_}
 use mathlib.Core.List.{List, [], _++_}
 use native.Mathlib.Omega.{arith}
 use borrow.Rule.Slice.PartMut.{putMid}
-use borrow.Author.Tests.{lt-leb, le-leb}
+use borrow.Author.Tests.{lt-leb, le-leb, leb-true, leb-false}
+use mathlib.Core.Bool.{Bool, true, false}
+use Rattle.std.specs.declared.option.Option.{Option}
 use lib.Dec.{leb}
 use lib.ListN.{length, take, drop}
 use Rattle.std.proofs.shelf.Lists.{append-nil, append-assoc, length-take-le, length-drop, take-append-drop, take-take, drop-take, drop-drop, drop-all, take-at, drop-at, take-rest}
@@ -99,3 +101,53 @@ module _ (m : SourceMeaning) (buffer : Bytes) (f : ℕ) (m′ : SourceMeaning) (
         laid-in = i .laid-in ∙ ap (λ n. laid n (m .bytes) buffer) (sym so-far);
         left = i .left ∙ ap (λ n. after n m) (sym so-far);
       }
+
+-- ---- what a filled buffer tells
+
+ok-all : (b : Bool) (x : Unit {0}) (s : Option ℕ) (n : ℕ) → Ok x ≡ allOr b s n → b ≡ true
+ok-all true x s n e = refl
+ok-all false x s n e = cc
+
+err-short : (b : Bool) (e : Short) (s : Option ℕ) (n : ℕ) → Err e ≡ allOr b s n → (b ≡ false) × (e ≡ short s n)
+err-short true e s n p = (cc, cc)
+err-short false e s n p = (refl, cc)
+
+-- it was filled: it holds the first bytes that were to come, and the others still are
+pub record Whole (m : SourceMeaning) (buffer : Bytes) (m′ : SourceMeaning) (buffer′ : Bytes) : Type 0 where
+  pub enough : length buffer ≤ length (m .bytes)
+  pub front : buffer′ ≡ take (length buffer) (m .bytes)
+  pub split : m .bytes ≡ buffer′ ++ m′ .bytes
+  pub stop : m′ .stop ≡ m .stop
+
+pub filled-whole : (m : SourceMeaning) (buffer : Bytes) (x : Unit {0}) (m′ : SourceMeaning) (buffer′ : Bytes) → Filled m buffer (Ok x) m′ buffer′ → Whole m buffer m′ buffer′
+filled-whole m buffer x m′ buffer′ f =
+    let n = length buffer in
+    let enough : n ≤ length (m .bytes) = leb-true n (length (m .bytes)) (ok-all (leb n (length (m .bytes))) x (m .stop) (length (m .bytes)) (f .answer)) in
+    let all : come n m ≡ n = omega (arith, enough) in
+    let front : buffer′ ≡ take n (m .bytes) =
+      f .laid-in ∙ ap (λ k. laid k (m .bytes) buffer) all ∙ ap (λ t. take n (m .bytes) ++ t) (drop-all n buffer (omega arith)) ∙ append-nil (take n (m .bytes)) in
+    let left : m′ ≡ after n m = f .left ∙ ap (λ k. after k m) all in
+    record {
+      enough = enough;
+      front = front;
+      split = sym (take-append-drop n (m .bytes)) ∙ (λ i. sym front i ++ sym left i .bytes);
+      stop = ap (λ x. x .stop) left;
+    }
+
+-- it was not: all bytes to come have been given
+pub record Cut (m : SourceMeaning) (buffer : Bytes) (s : Short) (m′ : SourceMeaning) : Type 0 where
+  pub less : length (m .bytes) < length buffer
+  pub why : s ≡ short (m .stop) (length (m .bytes))
+  pub left : m′ ≡ sourceOf [] (m .stop)
+
+pub filled-cut : (m : SourceMeaning) (buffer : Bytes) (s : Short) (m′ : SourceMeaning) (buffer′ : Bytes) → Filled m buffer (Err s) m′ buffer′ → Cut m buffer s m′
+filled-cut m buffer s m′ buffer′ f =
+    let n = length buffer in
+    let p = err-short (leb n (length (m .bytes))) s (m .stop) (length (m .bytes)) (f .answer) in
+    let less : length (m .bytes) < n = leb-false n (length (m .bytes)) (p .0) in
+    let all : come n m ≡ length (m .bytes) = omega (arith, less) in
+    record {
+      less = less;
+      why = p .1;
+      left = f .left ∙ ap (λ k. after k m) all ∙ ap (λ bs. sourceOf bs (m .stop)) (drop-all (length (m .bytes)) (m .bytes) (omega arith));
+    }

@@ -9,6 +9,8 @@ use Rattle.std.specs.declared.result.Result.{Result}
 use Rattle.std.specs.declared.result.Result.the-variants.{Ok, Err}
 use Rattle.std.specs.declared.option.Option.{Option}
 use Rattle.exr_error.specs.declared.stop.Stop.{Stop}
+use Rattle.exr_error.specs.declared.fault.Fault.{Fault}
+use Rattle.exr_error.specs.Refusals.{ended}
 use Rattle.layout.specs.Numbers.{Bytes}
 use Rattle.layout.specs.Streams.{SourceMeaning, after}
 use Rattle.exr_source.specs.declared.read.Short.{Short}
@@ -16,6 +18,10 @@ use Rattle.exr_source.specs.Requests.{stopAt, laid}
 
 abbrev pub short : Option ℕ → ℕ → Short
 short s n = record { stop = stopAt s; got = n }
+
+-- the fault of a call that takes one thing: 18 or 19, ordinal 0, the bytes that came
+abbrev pub shortFault : Short → Fault
+shortFault s = record { refusal = ended (s .stop); ordinal = 0; bytes = s .got }
 
 -- whether all came, or the stop with the bytes that came
 abbrev pub allOr : Bool → Option ℕ → ℕ → Result (Unit {0}) Short

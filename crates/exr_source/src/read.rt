@@ -1,7 +1,10 @@
 ghost use mathlib.Core.Path.{_≡_};
 ghost use Rattle.layout.specs.Streams.{after};
-ghost use Rattle.exr_source.specs.Fills.{Filled, nextOf};
+ghost use Rattle.exr_source.specs.Fills.{Filled, nextOf, shortFault};
 use crate::source::Source;
+use exr_error::fault::Fault;
+use exr_error::refusal::Refusal;
+use exr_error::refusal::StopRefusal;
 use exr_error::stop::Stop;
 
 /// A source stopped before all bytes that were wanted had come: its stop, and
@@ -10,6 +13,16 @@ use exr_error::stop::Stop;
 pub struct Short {
     pub stop: Stop,
     pub got: usize,
+}
+
+/// A call that takes one thing and is stopped tells 18 or 19, with the bytes
+/// that came.
+pub impl From<Short> for Fault as ShortFault {
+    ghost converts = { λ s f. f ≡ shortFault s };
+
+    fn from(short: Short) -> Fault {
+        Refusal::from(short.stop).at(0, short.got)
+    }
 }
 
 /// Fills the buffer from its start; each request is for the part still

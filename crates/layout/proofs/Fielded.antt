@@ -4,7 +4,8 @@ use mathlib.Core.Path.{_≡_, refl, ap, sym, _∙_, subst}
 use mathlib.Core.Bool.{Bool, true, false, cond}
 use mathlib.Core.List.{List, [], _∷_, _++_, append-assoc, append-nil}
 use native.Mathlib.Omega.{arith}
-use lib.ListN.{length, take, drop, length-append}
+use lib.ListN.{length, take, drop, length-append, length-drop}
+use mathlib.Core.Logic.{_⊎_, inl, inr}
 use Rattle.std.specs.declared.option.Option.the-variants.{Some, None}
 use lib.Seq.{drop-drop}
 use Rattle.std.specs.declared.result.Result.{Result}
@@ -16,7 +17,7 @@ use Rattle.layout.proofs.Numbered.{length-lowFirst, bytes-lowFirst, whole-lowF
 use Rattle.layout.proofs.Reading.{Sees, sees-next, sees-asked, sees-last, Exactly, part-sees, part-back, Asks, asks-next, asks-asked, part-asks}
 
 pub fields-sees : (fs : List Field) (xs : Bytes) → Sees (Numbers fs) xs (fields fs xs)
-unfolding fields Numbers
+unfolding Numbers
 fields-sees [] xs = ([], refl, refl)
 fields-sees (f ∷ fs) xs =
     sees-next (Exactly (f .width)) (Numbers (f ∷ fs)) xs (part (f .width) xs) _ (part-sees (f .width) xs) (λ b bs r e s.
@@ -25,7 +26,7 @@ fields-sees (f ∷ fs) xs =
     (b, cs, ap (λ (t : Bytes). t ++ cs) (s .0), s .1, yes′, refl, is))))
 
 pub fields-back : (fs : List Field) (ns : List ℕ) (xs rest : Bytes) → Numbers fs ns xs → fields fs (xs ++ rest) ≡ Ok (ns, rest)
-unfolding fields Numbers
+unfolding Numbers
 fields-back [] [] xs rest is = ap (λ (t : Bytes). Ok ([], t ++ rest)) is
 fields-back [] (n ∷ ns) xs rest is = absurd is
 fields-back (f ∷ fs) [] xs rest is = absurd is
@@ -39,7 +40,7 @@ fields-back (f ∷ fs) (n ∷ ns) xs rest (bs, more, e, long, ok, it, is) =
     ∙ ap (λ (m : ℕ). Ok (m ∷ ns, rest)) (sym it)
 
 pub fields-written : (fs : List Field) (ns : List ℕ) → Held fs ns → Numbers fs ns (fieldBytes fs ns)
-unfolding Numbers Held fieldBytes
+unfolding Numbers Held
 fields-written [] [] h = refl
 fields-written [] (n ∷ ns) h = absurd h
 fields-written (f ∷ fs) [] h = absurd h
@@ -53,7 +54,7 @@ numbersAt [] xs = []
 numbersAt (f ∷ fs) xs = f .keeps (whole (take (f .width) xs)) ∷ numbersAt fs (drop (f .width) xs)
 
 pub fields-asks : (fs : List Field) (xs : Bytes) → Asks (fieldQuestions fs xs) (numbersAt fs xs) (drop (size fs) xs) (fields fs xs)
-unfolding fields fieldQuestions numbersAt size
+unfolding fieldQuestions numbersAt
 fields-asks [] xs = (tt, refl, refl)
 fields-asks (f ∷ fs) xs =
     let w : ℕ = f .width in
@@ -72,7 +73,7 @@ fields-asks (f ∷ fs) xs =
     ended (Err q) s = s
 
 pub fields-sized : (fs : List Field) (ns : List ℕ) → Held fs ns → length (fieldBytes fs ns) ≡ size fs
-unfolding Held fieldBytes size
+unfolding Held
 fields-sized [] ns h = refl
 fields-sized (f ∷ fs) [] h = absurd h
 fields-sized (f ∷ fs) (n ∷ ns) h =
@@ -80,7 +81,6 @@ fields-sized (f ∷ fs) (n ∷ ns) h =
     ∙ omega (arith, length-lowFirst (f .width) n, fields-sized fs ns (h .3))
 
 pub fields-bytes : (fs : List Field) (ns : List ℕ) → EachByte (fieldBytes fs ns)
-unfolding fieldBytes
 fields-bytes [] ns = refl
 fields-bytes (f ∷ fs) [] = refl
 fields-bytes (f ∷ fs) (n ∷ ns) = bytes-append (lowFirst (f .width) n) (fieldBytes fs ns) (bytes-lowFirst (f .width) n) (fields-bytes fs ns)
@@ -92,7 +92,7 @@ Whole (f ∷ fs) = ((n : ℕ) → f .keeps n ≡ n) × Whole fs
 
 -- bytes that are the numbers of such fields are those that are written for them
 pub fields-same : (fs : List Field) (ns : List ℕ) (xs : Bytes) → Whole fs → EachByte xs → Numbers fs ns xs → xs ≡ fieldBytes fs ns
-unfolding Numbers fieldBytes
+unfolding Numbers
 fields-same [] [] xs w h is = is
 fields-same [] (n ∷ ns) xs w h is = absurd is
 fields-same (f ∷ fs) [] xs w h is = absurd is
@@ -117,3 +117,20 @@ fields-stand = record {
   sized = fields-sized;
   bytes = fields-bytes;
 }
+
+-- fields that admit every number
+abbrev pub Free : List Field → Type 0
+Free [] = Unit {0}
+Free (f ∷ fs) = ((n : ℕ) → f .admits n ≡ true) × Free fs
+
+answered : (fs : List Field) (xs : Bytes) (q : ℕ) → Free fs → size fs ≤ length xs → FirstNo (fieldQuestions fs xs) (Some q) → ⊥
+unfolding fieldQuestions
+answered [] xs q w h f = f
+answered (f ∷ fs) xs q w h (inl short) = short .0 (omega arith)
+answered (f ∷ fs) xs q w h (inr (there, inl refused)) = refused .0 (w .0 (whole (take (f .width) xs)))
+answered (f ∷ fs) xs q w h (inr (there, inr (admitted, rest))) =
+    answered fs (drop (f .width) xs) q (w .1) (omega (arith, length-drop (f .width) xs)) rest
+
+-- where all their bytes are there, such fields are read
+pub fields-there : (fs : List Field) (xs : Bytes) (q : ℕ) → Free fs → size fs ≤ length xs → fields fs xs ≡ Err q → ⊥
+fields-there fs xs q w h e = answered fs xs q w h (fields-refuse fs xs q e)

@@ -25,13 +25,13 @@ i32 = record { width = 4; question = 6; admits = any; keeps = λ n. n }
 
 -- ---- reading and writing
 
-unfoldable pub fields : List Field → Bytes → Answer (List ℕ)
+abbrev pub fields : List Field → Bytes → Answer (List ℕ)
 fields [] xs = Ok ([], xs)
 fields (f ∷ fs) xs =
     next (part (f .width) xs) (λ bs r. next (asked (f .admits (whole bs)) (f .question) (bs, r)) (λ bs r.
     next (fields fs r) (λ ns r. Ok (f .keeps (whole bs) ∷ ns, r))))
 
-unfoldable pub fieldBytes : List Field → List ℕ → Bytes
+abbrev pub fieldBytes : List Field → List ℕ → Bytes
 fieldBytes [] ns = []
 fieldBytes (f ∷ fs) [] = []
 fieldBytes (f ∷ fs) (n ∷ ns) = lowFirst (f .width) n ++ fieldBytes fs ns
@@ -55,7 +55,7 @@ Held (f ∷ fs) [] = ⊥
 Held (f ∷ fs) (n ∷ ns) = (n < range (f .width)) × (f .admits n ≡ true) × (f .keeps n ≡ n) × Held fs ns
 
 -- how many bytes the fields have
-unfoldable pub size : List Field → ℕ
+abbrev pub size : List Field → ℕ
 size [] = 0
 size (f ∷ fs) = f .width + size fs
 
