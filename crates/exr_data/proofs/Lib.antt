@@ -1,4 +1,0 @@
-pub mod Words
-pub mod Taken
-pub mod Sliced
-pub mod Backs

@@ -1,6 +1,6 @@
-//! Numbers that have bytes in a file, the lowest byte first: one by one, in
+//! Numbers that have bytes in a file, the lowest byte first, by their width.
 pub mod data;
-pub mod integers;
-pub mod floats;
-pub mod runs;
-pub mod sequence_end;
+pub mod bits_8;
+pub mod bits_16;
+pub mod bits_32;
+pub mod bits_64;

@@ -4,7 +4,11 @@ ghost use Rattle.exr_error.specs.Conversions.{Nonnegative, Fitting, FittingI32
 pub fn i32_to_usize(value: i32) -> Option<usize>
     ensures { λ r. ⌜ Nonnegative value r ⌝ }
 {
-    usize::try_from(value).ok()
+    if value < 0 {
+        None
+    } else {
+        Some(value as usize)
+    }
 }
 
 /// The same number as a u32, or none if it is 2^32 or more.
@@ -32,7 +36,8 @@ pub fn u64_to_usize(value: u64) -> Option<usize>
 pub fn u32_to_usize(value: u32) -> Option<usize>
     ensures { λ r. ⌜ Fitting 64 value r ⌝ }
 {
-    usize::try_from(value).ok()
+    let wide = value as usize;
+    Some(wide)
 }
 
 /// The same number as an i32, or none if it is 2^31 or more.

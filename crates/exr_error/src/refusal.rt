@@ -191,9 +191,9 @@ pub impl From<Full> for Refusal as FullRefusal {
 
 /// How many refusals there are. In their order they have the numbers 1 to 30,
 /// there is no other, and a stop is told with 19 and 20 alone.
-pub fn refusals_are_numbered() -> u8
+pub fn refusal_count() -> u8
     ensures count { λ r. ⌜ r ≡ 30 ⌝ }
     ensures numbered { λ _. ⌜ Numbered ⌝ }
 {
-    30
+    30u8
 }

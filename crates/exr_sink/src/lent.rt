@@ -29,7 +29,8 @@ impl<'a> LentBuffer<'a> {
     pub fn count(&self) -> usize
         ensures { λ r. ⌜ r ≡ now (self .entry) .at ⌝ }
     {
-        self.at
+        let count = self.at;
+        count
     }
 }
 

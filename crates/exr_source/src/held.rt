@@ -29,7 +29,8 @@ impl<'a> HeldBytes<'a> {
     pub fn rest(&self) -> &[u8]
         ensures { λ r. ⌜ now r ≡ now (now (self .entry) .rest) ⌝ }
     {
-        self.rest
+        let rest = self.rest;
+        rest
     }
 }
 

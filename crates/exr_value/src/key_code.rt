@@ -5,8 +5,9 @@ ghost use Rattle.exr_sink.specs.Gifts.{GaveAll};
 ghost use Rattle.exr_value.specs.Seen.{seenBy};
 ghost use Rattle.exr_value.specs.KeyCodes.{numbersOf, Taken, Key-codes-read-back};
 use crate::fields::read_i32;
-use exr_data::integers::I32Data;
-use exr_data::runs::write_slice_le;
+use exr_data::data::Data;
+use exr_data::bits_32::I32Data;
+use exr_io::runs::write_slice_le;
 use exr_error::fault::Fault;
 use exr_error::refusal::Refusal;
 use exr_error::stop::Full;
@@ -39,7 +40,7 @@ impl KeyCode {
     pub fn byte_size() -> usize
         ensures { λ r. ⌜ r ≡ size keyCode ⌝ }
     {
-        28
+        7 * i32::BYTE_SIZE
     }
 
     /// The key code at the front of some bytes, and the bytes behind it; 6 if

@@ -1,0 +1,4 @@
+pub mod Words
+pub mod Taken
+pub mod Sliced
+pub mod Backs
