@@ -1,3 +1,2 @@
 pub mod Refusals
-pub mod Conversions
 pub mod Numbering

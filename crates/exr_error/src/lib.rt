@@ -1,6 +1,5 @@
 //! Why a call is refused: the thirty refusals, what a fault tells of one, and
 //! the stops of sources and sinks from which some of them come.
-pub mod convert;
 pub mod fault;
 pub mod refusal;
 pub mod stop;

@@ -2,4 +2,3 @@ pub mod Requests
 pub mod Fills
 pub mod Keeping
 pub mod Properly
-pub mod Peeks

@@ -6,4 +6,3 @@ pub mod held;
 pub mod chain;
 pub mod lend;
 pub mod read;
-pub mod peek;

@@ -12,10 +12,10 @@ use Rattle.std.specs.declared.result.Result.the-variants.{Ok, Err}
 use Rattle.exr_error.specs.declared.stop.Stop.{Stop}
 use Rattle.layout.specs.Numbers.{Bytes}
 use Rattle.layout.specs.Streams.{SourceMeaning, Proper, keptBefore}
-use Rattle.exr_source.specs.declared.peek.PeekRead.{PeekRead}
+use Rattle.exr_peek.specs.declared.peek_read.PeekRead.{PeekRead}
 use Rattle.exr_source.specs.Requests.{stopAt}
-use Rattle.exr_source.specs.Properly.{kept-proper}
+use Rattle.exr_peek.specs.Kept.{kept-proper}
 use Rattle.exr_source.specs.Keeping.{Steady}
 
 -- the kept byte, if there is one, and then what is below
 abbrev pub peekMeans : {S : Type 0} → (S → SourceMeaning) → PeekRead S → SourceMeaning

@@ -1,6 +1,6 @@
 ghost use mathlib.Core.Path.{_≡_};
 ghost use mathlib.Core.Bool.{true};
-ghost use Rattle.exr_source.specs.Properly.{keptBelow};
+ghost use Rattle.exr_peek.specs.Kept.{keptBelow};
 
 pub mod peeking;
 

@@ -1,4 +1,6 @@
-ghost use Rattle.exr_error.specs.Conversions.{Nonnegative, Fitting, FittingI32};
+//! Conversions between integer types: the same number, or none where the other
+//! type does not have it.
+ghost use Rattle.exr_convert.specs.Conversions.{Nonnegative, Fitting, FittingI32};
 
 /// The same number as a usize, or none if it is negative.
 pub fn i32_to_usize(value: i32) -> Option<usize>
