@@ -1,4 +1,11 @@
 //! One trip of a key code, from bytes to numbers to bytes, as lines of text.
+ghost use mathlib.Core.Path.{_≡_};
+ghost use mathlib.Core.Bool.{true};
+ghost use lib.Dec.{leb};
+ghost use lib.ListN.{length};
+ghost use Rattle.std.specs.Vec.{made};
+ghost use Rattle.layout.specs.KeyCodes.{keyCodeBytes};
+ghost use Rattle.exr_value.specs.KeyCodes.{numbersOf};
 use exr_error::fault::Fault;
 use exr_sink::block::Block;
 use exr_sink::block::BlockSink;
@@ -18,8 +25,11 @@ pub struct Trip {
 
 /// Takes a key code from a source of these bytes, writes its numbers to a
 /// sink, and compares what the sink took with what the source gave. A refused
-/// one is told by its number and the bytes given; nothing is written then.
-pub fn carry(heap: Global, bytes: &[u8]) -> Result<Trip, AllocError> {
+/// one is told by its number and the bytes given; nothing is written then. A
+/// key code comes through exactly if 28 bytes are there.
+pub fn carry(heap: Global, bytes: &[u8]) -> Result<Trip, AllocError>
+    ensures { λ r. ⌜ made r (λ t. t .carried ≡ leb 28 (length (now (bytes .entry)))) ⌝ }
+{
     let mut text = String::new(heap);
     line(heap, &mut text, "bytes to come: ", bytes.len())?;
     let mut source = HeldBytes::new(bytes);
@@ -57,7 +67,9 @@ fn numbers(heap: Global, text: &mut String, key_code: KeyCode) -> Result<(), All
 
 /// Writes the numbers to a block, and tells whether it took the bytes that the
 /// source gave.
-fn written(heap: Global, text: &mut String, key_code: KeyCode, given: &[u8]) -> Result<bool, AllocError> {
+fn written(heap: Global, text: &mut String, key_code: KeyCode, given: &[u8]) -> Result<bool, AllocError>
+    ensures { λ r. ⌜ made r (λ same. now (given .entry) ≡ keyCodeBytes (numbersOf «key_code») → same ≡ true) ⌝ }
+{
     hex(heap, text, "given by the source:", given)?;
     text.push_str("write its seven numbers\n")?;
     let mut block = Block::new();
