@@ -16,6 +16,8 @@ pub trait Number: Copy {
 
     law same: { (x y : Self) → value x ≡ value y → x ≡ y };
 
+    law zero: { Within range (pos 0) };
+
     /// The number `n`, which every such type has.
     fn from_u8(n: u8) -> Self
         ensures value { λ r. ⌜ value r ≡ pos n ⌝ }
