@@ -4,7 +4,7 @@ use Prim.Native.Nat.{ℕ, _+_, _*_, _/_, _%_, _≤_, _<_}
 use native.Mathlib.Nat.{add-mul, div-le-self}
 use native.Mathlib.Omega.{arith}
 use lib.Dec.{le→leb, lt→ltb}
-use lib.IntN.{ℤ, pos, negsuc}
+use lib.IntN.{ℤ, pos, negsuc, natAbs}
 use lib.Signed.{_≤ℤ_, _<ℤ_, quotZ, leZ-yes, ltZ-yes}
 use borrow.Author.Needs.{needs}
 use Rattle.std.proofs.shelf.Bits.{div-add-mod', mod-below}
@@ -16,6 +16,10 @@ use Rattle.exr_math.specs.Rounding.{RoundedDown, Dividable, Floor}
 
 below-next : (n d : ℕ) → 0 < d → n < (n / d + 1) * d
 below-next n d h = omega (arith, add-mul (n / d) 1 d, div-add-mod' n d, mod-below n d h)
+
+above-zero : (d : ℤ) → pos 1 ≤ℤ d → 0 < natAbs d
+above-zero (pos d) k = omega (arith, ints)
+above-zero (negsuc d) k = absurd (k .le)
 
 -- the quotient toward zero is the quotient rounded down
 floor-quotient : (n d : ℤ) → pos 0 ≤ℤ n → pos 1 ≤ℤ d → RoundedDown n d (quotZ n d) × (pos 0 ≤ℤ quotZ n d) × (quotZ n d ≤ℤ n)
@@ -30,5 +34,5 @@ floor-quotient (negsuc n) d h k = absurd (h .le)
 pub floor-answer : {X : Type 0} (value : X → ℤ) (s : Range) (n d : ℤ) (r : Option X) → Within s (pos 0) → Dividable s n d → Answers value (Divides s d) (quotZ n d) r → Floor value n d r
 floor-answer value s n d None z (h, top, k) a =
     let f = floor-quotient n d h k in
-    a ((λ e. omega (arith, ints)), (omega (arith, ints), omega (arith, ints)))
+    a (above-zero d k, (omega (arith, ints), omega (arith, ints)))
 floor-answer value s n d (Some q) z (h, top, k) a = rw (a .1) (floor-quotient n d h k)

@@ -14,7 +14,11 @@ pub const fn floor_log_2(number: u32) -> u32
 pub const fn ceil_log_2(number: u32) -> u32
     ensures { λ r. ⌜ CeilLog number r ⌝ }
 {
-    if number == 0 { 0 } else { bit_length(number - 1) }
+    if number == 0 {
+        0
+    } else {
+        bit_length(number - 1)
+    }
 }
 
 // How many bits `number` has without zeros in front: the least exponent whose power of two is above

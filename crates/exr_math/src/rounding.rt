@@ -1,12 +1,12 @@
 //! Which way to round.
 ghost use Rattle.exr_math.specs.Logarithms.{RoundedLog};
 ghost use Rattle.exr_math.specs.Rounding.{Divided, Dividable, Floor, Ceiling};
-use exr_number::Number;
 use crate::logarithms::ceil_log_2;
 use crate::logarithms::floor_log_2;
+use exr_number::Number;
 
 /// Round up or down in specific calculations.
-#[derive(Debug, Clone, Copy, Eq, PartialEq, Hash)]
+#[derive(Debug, Clone, Copy, Eq, PartialEq)]
 pub enum RoundingMode {
     /// Round down.
     Down,

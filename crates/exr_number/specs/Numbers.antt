@@ -1,6 +1,7 @@
 -- Whole numbers of a type that holds only some of them, by their value in ℤ.
 use mathlib.Core.Path.{_≡_}
-use lib.IntN.{ℤ, pos}
+use Prim.Native.Nat.{_<_}
+use lib.IntN.{ℤ, natAbs}
 use lib.Signed.{_≤ℤ_}
 use Rattle.std.specs.declared.option.Option.{Option}
 use Rattle.std.specs.declared.option.Option.the-variants.{None, Some}
@@ -25,4 +26,4 @@ Answers value P z (Some x) = P z × (value x ≡ z)
 
 -- a quotient can be answered: what it was divided by is not 0, and it lies in the range
 abbrev pub Divides : Range → ℤ → ℤ → Type 0
-Divides s divisor quotient = (divisor ≡ pos 0 → ⊥) × Within s quotient
+Divides s divisor quotient = (0 < natAbs divisor) × Within s quotient

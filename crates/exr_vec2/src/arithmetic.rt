@@ -3,17 +3,18 @@ ghost use lib.IntN.{negℤ, _+ℤ_, _-ℤ_, _*ℤ_};
 ghost use lib.Signed.{quotZ};
 ghost use Rattle.exr_number.specs.Numbers.{Within, Divides};
 ghost use Rattle.exr_vec2.specs.Vectors.{Coordinates};
-use exr_number::Number;
 use crate::Vec2;
+use exr_number::Number;
 
 impl<T: Number> Vec2<T> {
     /// The sum of the two vectors, or `None` exactly where a coordinate of it does not fit the type.
     pub fn add(self, other: Self) -> Option<Self>
         ensures { λ r. ⌜ Coordinates value (Within range) (value (self .0) +ℤ value (other .0)) (Within range) (value (self .1) +ℤ value (other .1)) r ⌝ }
     {
-        let x = self.0.checked_add(other.0)?;
-        let y = self.1.checked_add(other.1)?;
-        Some(Vec2(x, y))
+        match (self.0.checked_add(other.0), self.1.checked_add(other.1)) {
+            (Some(x), Some(y)) => Some(Vec2(x, y)),
+            _ => None,
+        }
     }
 
     /// The difference of the two vectors, or `None` exactly where a coordinate of it does not fit the
@@ -21,9 +22,10 @@ impl<T: Number> Vec2<T> {
     pub fn sub(self, other: Self) -> Option<Self>
         ensures { λ r. ⌜ Coordinates value (Within range) (value (self .0) -ℤ value (other .0)) (Within range) (value (self .1) -ℤ value (other .1)) r ⌝ }
     {
-        let x = self.0.checked_sub(other.0)?;
-        let y = self.1.checked_sub(other.1)?;
-        Some(Vec2(x, y))
+        match (self.0.checked_sub(other.0), self.1.checked_sub(other.1)) {
+            (Some(x), Some(y)) => Some(Vec2(x, y)),
+            _ => None,
+        }
     }
 
     /// The product of the first components and that of the second components, or `None` exactly where
@@ -31,9 +33,10 @@ impl<T: Number> Vec2<T> {
     pub fn mul(self, other: Self) -> Option<Self>
         ensures { λ r. ⌜ Coordinates value (Within range) (value (self .0) *ℤ value (other .0)) (Within range) (value (self .1) *ℤ value (other .1)) r ⌝ }
     {
-        let x = self.0.checked_mul(other.0)?;
-        let y = self.1.checked_mul(other.1)?;
-        Some(Vec2(x, y))
+        match (self.0.checked_mul(other.0), self.1.checked_mul(other.1)) {
+            (Some(x), Some(y)) => Some(Vec2(x, y)),
+            _ => None,
+        }
     }
 
     /// The quotient of the first components and that of the second components, each rounded toward
@@ -41,9 +44,10 @@ impl<T: Number> Vec2<T> {
     pub fn div(self, other: Self) -> Option<Self>
         ensures { λ r. ⌜ Coordinates value (Divides range (value (other .0))) (quotZ (value (self .0)) (value (other .0))) (Divides range (value (other .1))) (quotZ (value (self .1)) (value (other .1))) r ⌝ }
     {
-        let x = self.0.checked_div(other.0)?;
-        let y = self.1.checked_div(other.1)?;
-        Some(Vec2(x, y))
+        match (self.0.checked_div(other.0), self.1.checked_div(other.1)) {
+            (Some(x), Some(y)) => Some(Vec2(x, y)),
+            _ => None,
+        }
     }
 
     /// The vector that points the other way, or `None` exactly where a coordinate of it does not fit
@@ -52,8 +56,9 @@ impl<T: Number> Vec2<T> {
         ensures { λ r. ⌜ Coordinates value (Within range) (negℤ (value (self .0))) (Within range) (negℤ (value (self .1))) r ⌝ }
     {
         let zero = T::from_u8(0);
-        let x = zero.checked_sub(self.0)?;
-        let y = zero.checked_sub(self.1)?;
-        Some(Vec2(x, y))
+        match (zero.checked_sub(self.0), zero.checked_sub(self.1)) {
+            (Some(x), Some(y)) => Some(Vec2(x, y)),
+            _ => None,
+        }
     }
 }

@@ -1,5 +1,4 @@
-//! Vectors of other coordinates, and pairs.
-ghost use mathlib.Core.Path.{_≡_};
+//! Vectors whose coordinates have another type.
 ghost use lib.IntN.{pos};
 ghost use Rattle.exr_vec2.specs.Conversions.{Converts, NotNegative, AtMostI32};
 ghost use Rattle.exr_vec2.specs.Vectors.{Coordinates};
@@ -26,9 +25,10 @@ impl Vec2<i32> {
     pub fn to_usize(self) -> Option<Vec2<usize>>
         ensures { λ r. ⌜ Coordinates (λ n. pos n) NotNegative (self .0) NotNegative (self .1) r ⌝ }
     {
-        let x = usize::try_from(self.0).ok()?;
-        let y = usize::try_from(self.1).ok()?;
-        Some(Vec2(x, y))
+        if self.0 < 0 || self.1 < 0 {
+            return None;
+        }
+        Some(Vec2(self.0 as usize, self.1 as usize))
     }
 }
 
@@ -37,28 +37,10 @@ impl Vec2<usize> {
     pub fn to_i32(self) -> Option<Vec2<i32>>
         ensures { λ r. ⌜ Coordinates (λ z. z) AtMostI32 (pos (self .0)) AtMostI32 (pos (self .1)) r ⌝ }
     {
-        let x = i32::try_from(self.0).ok()?;
-        let y = i32::try_from(self.1).ok()?;
-        Some(Vec2(x, y))
-    }
-}
-
-/// The vector whose components are those of the pair.
-pub impl<T> From<(T, T)> for Vec2<T> as Vec2FromPair {
-    ghost converts = { λ pair v. (v .0 ≡ pair .0) × (v .1 ≡ pair .1) };
-
-    fn from(pair: (T, T)) -> Vec2<T> {
-        let (x, y) = pair;
-        Vec2(x, y)
-    }
-}
-
-/// The pair of the vector's components.
-pub impl<T> From<Vec2<T>> for (T, T) as PairFromVec2 {
-    ghost converts = { λ v pair. (pair .0 ≡ v .0) × (pair .1 ≡ v .1) };
-
-    fn from(vec2: Vec2<T>) -> (T, T) {
-        let Vec2(x, y) = vec2;
-        (x, y)
+        let greatest = i32::MAX as usize;
+        if greatest < self.0 || greatest < self.1 {
+            return None;
+        }
+        Some(Vec2(self.0 as i32, self.1 as i32))
     }
 }

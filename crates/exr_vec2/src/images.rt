@@ -2,8 +2,8 @@
 ghost use lib.IntN.{_+ℤ_, _*ℤ_};
 ghost use Rattle.exr_number.specs.Numbers.{Within, Answers};
 ghost use Rattle.exr_vec2.specs.Vectors.{Indexes};
-use exr_number::Number;
 use crate::Vec2;
+use exr_number::Number;
 
 impl<T: Number> Vec2<T> {
     /// Seeing this vector as a dimension or size (width and height), the area that this dimension
@@ -23,12 +23,12 @@ impl<T: Number> Vec2<T> {
         let Vec2(x, y) = self;
         let Vec2(width, height) = resolution;
         let zero = T::from_u8(0);
-        if x.is_below(zero) || y.is_below(zero) {
+        if x.is_below(zero) || !x.is_below(width) || y.is_below(zero) || !y.is_below(height) {
             return None;
         }
-        if !x.is_below(width) || !y.is_below(height) {
-            return None;
+        match y.checked_mul(width) {
+            Some(start) => start.checked_add(x),
+            None => None,
         }
-        y.checked_mul(width)?.checked_add(x)
     }
 }
