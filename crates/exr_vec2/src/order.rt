@@ -9,17 +9,7 @@ impl<T: Number> Vec2<T> {
         ensures x { λ r. ⌜ Larger (value (self .0)) (value (other .0)) (value (r .0)) ⌝ }
         ensures y { λ r. ⌜ Larger (value (self .1)) (value (other .1)) (value (r .1)) ⌝ }
     {
-        let x = if self.0.is_below(other.0) {
-            other.0
-        } else {
-            self.0
-        };
-        let y = if self.1.is_below(other.1) {
-            other.1
-        } else {
-            self.1
-        };
-        Vec2(x, y)
+        Vec2(larger(self.0, other.0), larger(self.1, other.1))
     }
 
     /// The vector with the smaller of the first components and the smaller of the second components.
@@ -27,16 +17,18 @@ impl<T: Number> Vec2<T> {
         ensures x { λ r. ⌜ Smaller (value (self .0)) (value (other .0)) (value (r .0)) ⌝ }
         ensures y { λ r. ⌜ Smaller (value (self .1)) (value (other .1)) (value (r .1)) ⌝ }
     {
-        let x = if self.0.is_below(other.0) {
-            self.0
-        } else {
-            other.0
-        };
-        let y = if self.1.is_below(other.1) {
-            self.1
-        } else {
-            other.1
-        };
-        Vec2(x, y)
+        Vec2(smaller(self.0, other.0), smaller(self.1, other.1))
     }
+}
+
+fn larger<T: Number>(a: T, b: T) -> T
+    ensures { λ r. ⌜ Larger (value a) (value b) (value r) ⌝ }
+{
+    if a.is_below(b) { b } else { a }
+}
+
+fn smaller<T: Number>(a: T, b: T) -> T
+    ensures { λ r. ⌜ Smaller (value a) (value b) (value r) ⌝ }
+{
+    if a.is_below(b) { a } else { b }
 }
