@@ -6,13 +6,12 @@ use native.Mathlib.Omega.{arith}
 use lib.Dec.{le→leb, lt→ltb}
 use lib.IntN.{ℤ, pos, negsuc, natAbs}
 use lib.Signed.{_≤ℤ_, _<ℤ_, quotZ, leZ-yes, ltZ-yes}
-use borrow.Author.Needs.{needs}
 use Rattle.std.proofs.shelf.Bits.{div-add-mod', mod-below}
 use Rattle.std.proofs.shelf.Signed.{ints}
 use Rattle.std.specs.declared.option.Option.{Option}
 use Rattle.std.specs.declared.option.Option.the-variants.{None, Some}
-use Rattle.exr_number.specs.Numbers.{Range, Within, Answers, Divides}
-use Rattle.exr_math.specs.Rounding.{RoundedDown, Dividable, Floor}
+use Rattle.exr_number.specs.Numbers.{Range, Within, Answers, QuotientFits}
+use Rattle.exr_math.specs.Rounding.{RoundedDown, CanDivide, Floor}
 
 below-next : (n d : ℕ) → 0 < d → n < (n / d + 1) * d
 below-next n d h = omega (arith, add-mul (n / d) 1 d, div-add-mod' n d, mod-below n d h)
@@ -31,7 +30,7 @@ floor-quotient (pos n) (negsuc d) h k = absurd (k .le)
 floor-quotient (negsuc n) d h k = absurd (h .le)
 
 -- so the quotient is there, and is rounded down
-pub floor-answer : {X : Type 0} (value : X → ℤ) (s : Range) (n d : ℤ) (r : Option X) → Within s (pos 0) → Dividable s n d → Answers value (Divides s d) (quotZ n d) r → Floor value n d r
+pub floor-answer : {X : Type 0} (value : X → ℤ) (s : Range) (n d : ℤ) (r : Option X) → Within s (pos 0) → CanDivide s n d → Answers value (QuotientFits s d) (quotZ n d) r → Floor value n d r
 floor-answer value s n d None z (h, top, k) a =
     let f = floor-quotient n d h k in
     a (above-zero d k, (omega (arith, ints), omega (arith, ints)))

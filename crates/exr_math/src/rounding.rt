@@ -1,6 +1,6 @@
 //! Which way to round.
 ghost use Rattle.exr_math.specs.Logarithms.{RoundedLog};
-ghost use Rattle.exr_math.specs.Rounding.{Divided, Dividable, Floor, Ceiling};
+ghost use Rattle.exr_math.specs.Rounding.{Divided, CanDivide, Floor, Ceiling};
 use crate::logarithms::ceil_log_2;
 use crate::logarithms::floor_log_2;
 use exr_number::Number;
@@ -29,7 +29,7 @@ impl RoundingMode {
     /// The quotient of `dividend` by `divisor`, rounded down or up, for every two numbers that have
     /// one. Answers `None` exactly where `dividend` is below 0 or `divisor` is below 1.
     pub fn divide<T: Number>(self, dividend: T, divisor: T) -> Option<T>
-        ensures { λ r. ⌜ Divided (T·Number .value) self (T·Number .value dividend) (T·Number .value divisor) r ⌝ }
+        ensures { λ r. ⌜ Divided value self (value dividend) (value divisor) r ⌝ }
     {
         if dividend.is_below(T::from_u8(0)) || divisor.is_below(T::from_u8(1)) {
             return None;
@@ -41,15 +41,18 @@ impl RoundingMode {
     }
 }
 
+// The quotient rounded down: with these numbers, rounding toward zero is rounding down.
 fn divide_down<T: Number>(dividend: T, divisor: T) -> Option<T>
-    requires { ⌜ Dividable range (value dividend) (value divisor) ⌝ }
+    requires { ⌜ CanDivide range (value dividend) (value divisor) ⌝ }
     ensures { λ r. ⌜ Floor value (value dividend) (value divisor) r ⌝ }
 {
     dividend.checked_div(divisor)
 }
 
+// The quotient rounded up: 0 for 0, else one more than that of the number before, rounded down. No
+// sum on the way is above `dividend`.
 fn divide_up<T: Number>(dividend: T, divisor: T) -> Option<T>
-    requires { ⌜ Dividable range (value dividend) (value divisor) ⌝ }
+    requires { ⌜ CanDivide range (value dividend) (value divisor) ⌝ }
     ensures { λ r. ⌜ Ceiling value (value dividend) (value divisor) r ⌝ }
 {
     let one = T::from_u8(1);

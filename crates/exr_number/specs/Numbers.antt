@@ -25,5 +25,5 @@ Answers value P z None = P z → ⊥
 Answers value P z (Some x) = P z × (value x ≡ z)
 
 -- a quotient can be answered: what it was divided by is not 0, and it lies in the range
-abbrev pub Divides : Range → ℤ → ℤ → Type 0
-Divides s divisor quotient = (0 < natAbs divisor) × Within s quotient
+abbrev pub QuotientFits : Range → ℤ → ℤ → Type 0
+QuotientFits s divisor quotient = (0 < natAbs divisor) × Within s quotient

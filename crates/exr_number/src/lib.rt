@@ -2,7 +2,7 @@
 ghost use mathlib.Core.Path.{_≡_};
 ghost use lib.IntN.{ℤ, pos, _+ℤ_, _-ℤ_, _*ℤ_};
 ghost use lib.Signed.{ltZ, quotZ};
-ghost use Rattle.exr_number.specs.Numbers.{Range, Within, Answers, Divides};
+ghost use Rattle.exr_number.specs.Numbers.{Range, Within, Answers, QuotientFits};
 
 pub mod quotients;
 pub mod signed;
@@ -13,16 +13,18 @@ pub use unsigned::UsizeNumber;
 
 /// A type of whole numbers.
 ///
-/// `value` is the number that a value of the type stands for, and `range` has the least and the
-/// greatest of these numbers. No operation wraps: where its result lies outside the range, the
-/// answer is `None`.
+/// No operation wraps: where its result is not a number of the type, the answer is `None`.
 pub trait Number: Copy {
+    // the number that a value stands for
     ghost value: { Self → ℤ };
 
+    // the least and the greatest of these numbers
     ghost range: { Range };
 
+    // no two values stand for one number
     law same: { (x y : Self) → value x ≡ value y → x ≡ y };
 
+    // 0 is one of these numbers
     law zero: { Within range (pos 0) };
 
     /// The number `n`, which every such type has.
@@ -50,5 +52,5 @@ pub trait Number: Copy {
     /// The quotient rounded toward zero, or `None` exactly where `other` is 0 or the quotient lies
     /// outside the range.
     fn checked_div(self, other: Self) -> Option<Self>
-        ensures { λ r. ⌜ Answers value (Divides range (value other)) (quotZ (value self) (value other)) r ⌝ };
+        ensures { λ r. ⌜ Answers value (QuotientFits range (value other)) (quotZ (value self) (value other)) r ⌝ };
 }

@@ -32,5 +32,5 @@ abbrev pub Inside : ℤ → ℤ → ℤ → ℤ → Type 0
 Inside x y width height = (pos 0 ≤ℤ x) × (x <ℤ width) × (pos 0 ≤ℤ y) × (y <ℤ height)
 
 -- an index can be answered: its place lies in the image, and it lies in the range
-abbrev pub Indexes : Range → ℤ → ℤ → ℤ → ℤ → ℤ → Type 0
-Indexes s x y width height index = Inside x y width height × Within s index
+abbrev pub IndexFits : Range → ℤ → ℤ → ℤ → ℤ → ℤ → Type 0
+IndexFits s x y width height index = Inside x y width height × Within s index

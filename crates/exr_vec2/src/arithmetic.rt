@@ -1,7 +1,7 @@
 //! Sums, differences, products, quotients and negatives, coordinate by coordinate.
 ghost use lib.IntN.{negℤ, _+ℤ_, _-ℤ_, _*ℤ_};
 ghost use lib.Signed.{quotZ};
-ghost use Rattle.exr_number.specs.Numbers.{Within, Divides};
+ghost use Rattle.exr_number.specs.Numbers.{Within, QuotientFits};
 ghost use Rattle.exr_vec2.specs.Vectors.{Combined, Coordinates};
 use crate::Vec2;
 use exr_number::Number;
@@ -42,7 +42,7 @@ impl<T: Number> Vec2<T> {
     /// The quotient of the first components and that of the second components, each rounded toward
     /// zero, or `None` exactly where a coordinate of `other` is 0 or a quotient does not fit the type.
     pub fn div(self, other: Self) -> Option<Self>
-        ensures { λ r. ⌜ Combined value (Divides range) quotZ self other r ⌝ }
+        ensures { λ r. ⌜ Combined value (QuotientFits range) quotZ self other r ⌝ }
     {
         match (self.0.checked_div(other.0), self.1.checked_div(other.1)) {
             (Some(x), Some(y)) => Some(Vec2(x, y)),

@@ -21,12 +21,14 @@ impl<T: Number> Vec2<T> {
     }
 }
 
+// The larger of two numbers.
 fn larger<T: Number>(a: T, b: T) -> T
     ensures { λ r. ⌜ Larger (value a) (value b) (value r) ⌝ }
 {
     if a.is_below(b) { b } else { a }
 }
 
+// The smaller of two numbers.
 fn smaller<T: Number>(a: T, b: T) -> T
     ensures { λ r. ⌜ Smaller (value a) (value b) (value r) ⌝ }
 {
