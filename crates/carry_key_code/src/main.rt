@@ -10,7 +10,34 @@ use std::fs;
 
 /// The numbers 1, 2, 3, 4, 5, 6 and 64.
 const EXAMPLE: [u8; 28] = [
-    1, 0, 0, 0, 2, 0, 0, 0, 3, 0, 0, 0, 4, 0, 0, 0, 5, 0, 0, 0, 6, 0, 0, 0, 64, 0, 0, 0,
+    1,
+    0,
+    0,
+    0,
+    2,
+    0,
+    0,
+    0,
+    3,
+    0,
+    0,
+    0,
+    4,
+    0,
+    0,
+    0,
+    5,
+    0,
+    0,
+    0,
+    6,
+    0,
+    0,
+    0,
+    64,
+    0,
+    0,
+    0,
 ];
 
 fn main(rt: LibcRuntime) -> Result<(), AnyError> {
@@ -21,7 +48,11 @@ fn main(rt: LibcRuntime) -> Result<(), AnyError> {
 fn run(rt: &LibcRuntime) -> Result<(), AnyError> {
     let trip = trip(rt)?;
     rt.print(trip.text.as_str())?;
-    if trip.carried { Ok(()) } else { Err("no key code was carried".into()) }
+    if trip.carried {
+        Ok(())
+    } else {
+        Err("no key code was carried".into())
+    }
 }
 
 fn trip(rt: &LibcRuntime) -> Result<Trip, AnyError> {

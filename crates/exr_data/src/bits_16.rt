@@ -78,6 +78,8 @@ pub impl Data for F16 as F16Data {
     }
 
     fn from_word(word: u64) -> F16 {
-        F16 { bits: u16::from_word(word) }
+        F16 {
+            bits: u16::from_word(word),
+        }
     }
 }

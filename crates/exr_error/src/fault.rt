@@ -18,6 +18,10 @@ impl Refusal {
         ensures ordinal { λ r. ⌜ r .ordinal ≡ ordinal ⌝ }
         ensures bytes { λ r. ⌜ r .bytes ≡ bytes ⌝ }
     {
-        Fault { refusal: self, ordinal, bytes }
+        Fault {
+            refusal: self,
+            ordinal,
+            bytes,
+        }
     }
 }

@@ -30,8 +30,8 @@ module _ {X : Type 0} (w : ℕ) (fits : X → Type 0) (bits : X → ℕ) (value 
       let enough : w ≤ length all = omega (arith, l) in
       let m : length slice ≡ length xs = omega (arith, n) in
       ap (λ b. cond b (value (whole (take w all)) ∷ readInto w value slice (drop w all)) (y ∷ slice)) (le-leb w (length all) enough)
-        ∙ ap (λ b. value (whole b) ∷ readInto w value slice (drop w all)) (take-at (spelled x) (joined spelled xs) w (long x))
-        ∙ ap (λ v. value v ∷ readInto w value slice (drop w all)) (whole-lowFirst w (bits x) (below x (f .0)))
-        ∙ ap (λ v. v ∷ readInto w value slice (drop w all)) (back x (f .0))
-        ∙ ap (λ b. x ∷ readInto w value slice b) (drop-at (spelled x) (joined spelled xs) w (long x))
-        ∙ ap (λ t. x ∷ t) (reads-back xs slice (f .1) m)
+      ∙ ap (λ b. value (whole b) ∷ readInto w value slice (drop w all)) (take-at (spelled x) (joined spelled xs) w (long x))
+      ∙ ap (λ v. value v ∷ readInto w value slice (drop w all)) (whole-lowFirst w (bits x) (below x (f .0)))
+      ∙ ap (λ v. v ∷ readInto w value slice (drop w all)) (back x (f .0))
+      ∙ ap (λ b. x ∷ readInto w value slice b) (drop-at (spelled x) (joined spelled xs) w (long x))
+      ∙ ap (λ t. x ∷ t) (reads-back xs slice (f .1) m)

@@ -70,7 +70,7 @@ module _ {X : Type 0} (w : ℕ) (value : ℕ → X) where
           there = omega (arith, s .there);
           left = r .left ∙ ap (λ x. after x m′) all ∙ ap (after w) (s .left) ∙ ap (λ b. sourceOf b (m .stop)) onward;
           laid-in =
-            s .laid-in
+              s .laid-in
               ∙ ap (λ x. take i slice ++ x) (into-came slice i v rest h k ∙ ap (λ x. x ∷ readInto w value (drop (i + 1) slice) (drop w rest)) (sym v-is))
               ∙ sym (append-assoc (take i slice) (v ∷ []) (readInto w value (drop (i + 1) slice) (drop w rest)))
               ∙ ap (λ x. x ++ readInto w value (drop (i + 1) slice) (drop w rest)) (sym (take-more-set slice i v h))
@@ -94,7 +94,7 @@ module _ {X : Type 0} (w : ℕ) (value : ℕ → X) where
           answer = re ∙ ap Err (p .1 ∙ ap (λ x. stopAt (x .stop)) (s .left)) ∙ sym (ap (λ b. oneOr b tt (m .stop)) (lt-leb _ _ short));
           laid-in = sym (s .laid-in ∙ ap (λ x. take i slice ++ x) (into-failed slice i d rest h k) ∙ take-append-drop i slice);
           left =
-            q .left
+              q .left
               ∙ ap (λ x. after x m′) got-all
               ∙ ap (after (length (m′ .bytes))) (s .left)
               ∙ ap (λ b. sourceOf b (m .stop)) (drop-drop (length (m′ .bytes)) (i * w) (m .bytes))

@@ -84,7 +84,7 @@ module _ (w size : ℕ) (same : size ≡ w) (most : size ≤ 8) (m : SourceMeani
   pub taken-number : {X : Type 0} (value : ℕ → X) (v : X) (n : ℕ) → EachByte (m .bytes) → n ≡ eightWhole array → v ≡ value (n % range w) → ReadLe w value m (Ok v) m′
   taken-number value v n h e is = record {
     answer =
-      ap Ok (is ∙ ap value (ap (λ k. k % range w) e ∙ word-is h))
-      ∙ sym (ap (λ b. oneOr b (value (whole (take w (m .bytes)))) (m .stop)) (le-leb w (length (m .bytes)) enough));
+        ap Ok (is ∙ ap value (ap (λ k. k % range w) e ∙ word-is h))
+        ∙ sym (ap (λ b. oneOr b (value (whole (take w (m .bytes)))) (m .stop)) (le-leb w (length (m .bytes)) enough));
     left = f .left ∙ ap (λ n. after n m) (all ∙ (let k : w ≡ come w m = omega (arith, enough) in k));
   }

@@ -37,5 +37,4 @@ pub fn read_slice_le<D: Data, S: Source>(source: &mut S, slice: &mut [D]) -> Res
 /// The bytes of numbers read back as these numbers.
 pub fn runs_read_back<D: Data>()
     ensures { λ _. ⌜ Runs-read-back (D·Data .width) (D·Data .fits) (D·Data .bits) (D·Data .value) ⌝ }
-{
-}
+{}

@@ -65,7 +65,7 @@ gave-on m xs bs r m′ m″ g h =
     record {
       answer = h .answer ∙ ap (λ x. allOr (leb (length bs) (x .room)) (x .stop)) e ∙ ap (λ x. allOr x (m .stop)) b;
       after =
-        h .after
+          h .after
           ∙ ap (λ x. with (min (length bs) (x .room)) bs x) e
           ∙ ap (λ x. sinkOf x (m .room - length xs - k) (m .stop)) (append-assoc (m .taken) xs (take k bs) ∙ ap (λ x. m .taken ++ x) t)
           ∙ ap (λ x. sinkOf (m .taken ++ take (length xs + k) (xs ++ bs)) x (m .stop)) left
@@ -94,11 +94,11 @@ module _ {X : Type 0} (f : X → Bytes) where
   pub joined-next : (xs : List X) (i : ℕ) (x : X) → i < length xs → x ≡ getD xs i x → joined f (take (i + 1) xs) ≡ joined f (take i xs) ++ f x
   joined-next xs i x within read =
       ap (joined f) (take-more xs i x within)
-        ∙ joined-append (take i xs) (getD xs i x ∷ [])
-        ∙ ap (λ l. joined f (take i xs) ++ l) (append-nil (f (getD xs i x)) ∙ ap f (sym read))
+      ∙ joined-append (take i xs) (getD xs i x ∷ [])
+      ∙ ap (λ l. joined f (take i xs) ++ l) (append-nil (f (getD xs i x)) ∙ ap f (sym read))
 
   pub joined-split : (xs : List X) (i : ℕ) (x : X) → i < length xs → x ≡ getD xs i x → joined f xs ≡ (joined f (take i xs) ++ f x) ++ joined f (drop (i + 1) xs)
   joined-split xs i x within read =
       sym (ap (joined f) (take-append-drop (i + 1) xs))
-        ∙ joined-append (take (i + 1) xs) (drop (i + 1) xs)
-        ∙ ap (λ l. l ++ joined f (drop (i + 1) xs)) (joined-next xs i x within read)
+      ∙ joined-append (take (i + 1) xs) (drop (i + 1) xs)
+      ∙ ap (λ l. l ++ joined f (drop (i + 1) xs)) (joined-next xs i x within read)

@@ -22,7 +22,10 @@ impl Block {
     pub fn new() -> Self
         ensures { λ r. ⌜ r .len ≡ 0 ⌝ }
     {
-        Block { bytes: [0; BLOCK_SIZE], len: 0 }
+        Block {
+            bytes: [0; BLOCK_SIZE],
+            len: 0,
+        }
     }
 
     /// The bytes that it has taken.

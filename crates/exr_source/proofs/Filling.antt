@@ -125,7 +125,7 @@ filled-whole m buffer x m′ buffer′ f =
     let enough : n ≤ length (m .bytes) = leb-true n (length (m .bytes)) (ok-all (leb n (length (m .bytes))) x (m .stop) (length (m .bytes)) (f .answer)) in
     let all : come n m ≡ n = omega (arith, enough) in
     let front : buffer′ ≡ take n (m .bytes) =
-      f .laid-in ∙ ap (λ k. laid k (m .bytes) buffer) all ∙ ap (λ t. take n (m .bytes) ++ t) (drop-all n buffer (omega arith)) ∙ append-nil (take n (m .bytes)) in
+    f .laid-in ∙ ap (λ k. laid k (m .bytes) buffer) all ∙ ap (λ t. take n (m .bytes) ++ t) (drop-all n buffer (omega arith)) ∙ append-nil (take n (m .bytes)) in
     let left : m′ ≡ after n m = f .left ∙ ap (λ k. after k m) all in
     record {
       enough = enough;

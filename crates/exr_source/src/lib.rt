@@ -1,8 +1,8 @@
 //! Sources of bytes, each by its meaning: the bytes to come, and the stop
 //! behind them.
 pub mod bytes;
-pub mod source;
-pub mod held;
 pub mod chain;
+pub mod held;
 pub mod lend;
 pub mod read;
+pub mod source;

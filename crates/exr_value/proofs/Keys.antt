@@ -53,14 +53,37 @@ small z f = fits-ofZ {w = w32} {z = z} f .fits
 
 held : (k : KeyCode) → Fits k → Held keyCode (numbersOf k)
 unfolding Held
-held k f =
-    (small (k .«film_manufacturer_code») (f .0), refl, refl,
-    (small (k .«film_type») (f .1), refl, refl,
-    (small (k .«film_roll_prefix») (f .2), refl, refl,
-    (small (k .count) (f .3), refl, refl,
-    (small (k .«perforation_offset») (f .4), refl, refl,
-    (small (k .«perforations_per_frame») (f .5), refl, refl,
-    (small (k .«perforations_per_count») (f .6), refl, refl, tt)))))))
+held k f = (
+  small (k .«film_manufacturer_code») (f .0),
+  refl,
+  refl,
+  (
+    small (k .«film_type») (f .1),
+    refl,
+    refl,
+    (
+      small (k .«film_roll_prefix») (f .2),
+      refl,
+      refl,
+      (
+        small (k .count) (f .3),
+        refl,
+        refl,
+        (
+          small (k .«perforation_offset») (f .4),
+          refl,
+          refl,
+          (
+            small (k .«perforations_per_frame») (f .5),
+            refl,
+            refl,
+            (small (k .«perforations_per_count») (f .6), refl, refl, tt),
+          ),
+        ),
+      ),
+    ),
+  ),
+)
 
 same-number : (a b : ℤ) → SFits w32 a → SFits w32 b → ofZ w32 a ≡ ofZ w32 b → a ≡ b
 same-number a b f g e = sym (toZ-ofZ {w = w32} f) ∙ ap (toZ w32) e ∙ toZ-ofZ {w = w32} g

@@ -5,12 +5,12 @@ ghost use Rattle.exr_sink.specs.Gifts.{GaveAll};
 ghost use Rattle.exr_value.specs.Seen.{seenBy};
 ghost use Rattle.exr_value.specs.KeyCodes.{numbersOf, Taken, Key-codes-read-back};
 use crate::fields::read_i32;
-use exr_data::data::Data;
 use exr_data::bits_32::I32Data;
-use exr_io::runs::write_slice_le;
+use exr_data::data::Data;
 use exr_error::fault::Fault;
 use exr_error::refusal::Refusal;
 use exr_error::stop::Full;
+use exr_io::runs::write_slice_le;
 use exr_sink::sink::Sink;
 use exr_source::read::ShortFault;
 use exr_source::read::read_exact;
@@ -103,5 +103,4 @@ impl KeyCode {
 /// whatever stands behind them.
 pub fn key_codes_read_back()
     ensures { λ _. ⌜ Key-codes-read-back ⌝ }
-{
-}
+{}

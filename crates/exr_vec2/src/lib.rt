@@ -1,5 +1,4 @@
 //! Vectors of two coordinates.
-pub mod arithmetic;
 pub mod conversions;
 pub mod coordinates;
 pub mod images;

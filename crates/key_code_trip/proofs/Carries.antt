@@ -19,5 +19,5 @@ carries k bytes rest left given carried split same came holds =
     let long : length bytes ≡ 28 + length rest = ap length split ∙ length-append (keyCodeBytes (numbersOf k)) rest in
     let first : given - 0 ≡ 28 = omega (arith, came, long, ap length same) in
     let front : take (given - 0) bytes ≡ keyCodeBytes (numbersOf k) =
-      ap (λ n. take n bytes) first ∙ ap (take 28) split ∙ take-at (keyCodeBytes (numbersOf k)) rest 28 refl in
+    ap (λ n. take n bytes) first ∙ ap (take 28) split ∙ take-at (keyCodeBytes (numbersOf k)) rest 28 refl in
     holds front ∙ sym (le-leb 28 (length bytes) (omega (arith, long)))

@@ -36,7 +36,10 @@ pub fn carry(heap: Global, bytes: &[u8]) -> Result<Trip, AllocError>
     match KeyCode::read_from(&mut source) {
         Err(fault) => {
             refused(heap, &mut text, fault)?;
-            Ok(Trip { text, carried: false })
+            Ok(Trip {
+                text,
+                carried: false,
+            })
         }
         Ok(key_code) => {
             numbers(heap, &mut text, key_code)?;
@@ -56,37 +59,81 @@ fn refused(heap: Global, text: &mut String, fault: Fault) -> Result<(), AllocErr
 /// Each number under the name of its field.
 fn numbers(heap: Global, text: &mut String, key_code: KeyCode) -> Result<(), AllocError> {
     text.push_str("read a key code\n")?;
-    line(heap, text, "  film_manufacturer_code: ", key_code.film_manufacturer_code)?;
+    line(
+        heap,
+        text,
+        "  film_manufacturer_code: ",
+        key_code.film_manufacturer_code,
+    )?;
     line(heap, text, "  film_type: ", key_code.film_type)?;
-    line(heap, text, "  film_roll_prefix: ", key_code.film_roll_prefix)?;
+    line(
+        heap,
+        text,
+        "  film_roll_prefix: ",
+        key_code.film_roll_prefix,
+    )?;
     line(heap, text, "  count: ", key_code.count)?;
-    line(heap, text, "  perforation_offset: ", key_code.perforation_offset)?;
-    line(heap, text, "  perforations_per_frame: ", key_code.perforations_per_frame)?;
-    line(heap, text, "  perforations_per_count: ", key_code.perforations_per_count)
+    line(
+        heap,
+        text,
+        "  perforation_offset: ",
+        key_code.perforation_offset,
+    )?;
+    line(
+        heap,
+        text,
+        "  perforations_per_frame: ",
+        key_code.perforations_per_frame,
+    )?;
+    line(
+        heap,
+        text,
+        "  perforations_per_count: ",
+        key_code.perforations_per_count,
+    )
 }
 
 /// Writes the numbers to a block, and tells whether it took the bytes that the
 /// source gave.
-fn written(heap: Global, text: &mut String, key_code: KeyCode, given: &[u8]) -> Result<bool, AllocError>
+fn written(
+    heap: Global,
+    text: &mut String,
+    key_code: KeyCode,
+    given: &[u8],
+) -> Result<bool, AllocError>
     ensures { λ r. ⌜ made r (λ same. now (given .entry) ≡ keyCodeBytes (numbersOf «key_code») → same ≡ true) ⌝ }
 {
     hex(heap, text, "given by the source:", given)?;
     text.push_str("write its seven numbers\n")?;
     let mut block = Block::new();
     if let Err(full) = key_code.write(&mut block) {
-        line(heap, text, "refused: 20, the sink stopped with ", full.number)?;
+        line(
+            heap,
+            text,
+            "refused: 20, the sink stopped with ",
+            full.number,
+        )?;
         return Ok(false);
     }
     let taken = block.taken();
     hex(heap, text, "taken by the sink:  ", taken)?;
     line(heap, text, "bytes taken: ", taken.len())?;
     let same = taken == given;
-    text.push_str(if same { "verdict: the same bytes\n" } else { "verdict: other bytes\n" })?;
+    text.push_str(if same {
+        "verdict: the same bytes\n"
+    } else {
+        "verdict: other bytes\n"
+    })?;
     Ok(same)
 }
 
 /// A line of words and a number.
-fn line(heap: Global, text: &mut String, words: &str, number: impl Display + Drop) -> Result<(), AllocError> {
+fn line(
+    heap: Global,
+    text: &mut String,
+    words: &str,
+    number: impl Display + Drop,
+) -> Result<(), AllocError> {
     text.push_str(words)?;
     text.push_str(number.to_string(heap)?.as_str())?;
     text.push_str("\n")
@@ -113,21 +160,35 @@ mod tests {
     fn no_bytes_are_refused(rt: LibcRuntime) -> Result<(), Fail> {
         let trip = carry(rt.alloc(), &[])?;
         check(!trip.carried)?;
-        check(trip.text.as_str() == "bytes to come: 0\nrefused: 18\nbytes given: 0\nnothing is written\n")
+        check(
+            trip.text.as_str()
+                == "bytes to come: 0\nrefused: 18\nbytes given: 0\nnothing is written\n",
+        )
     }
 
     #[test]
     fn six_numbers_are_refused(rt: LibcRuntime) -> Result<(), Fail> {
         let trip = carry(rt.alloc(), &[1u8; 24])?;
         check(!trip.carried)?;
-        check(trip.text.as_str() == "bytes to come: 24\nrefused: 18\nbytes given: 24\nnothing is written\n")
+        check(
+            trip.text.as_str()
+                == "bytes to come: 24\nrefused: 18\nbytes given: 24\nnothing is written\n",
+        )
     }
 
     #[test]
     fn surplus_stays_in_the_source(rt: LibcRuntime) -> Result<(), Fail> {
         let trip = carry(rt.alloc(), &[255u8; 30])?;
         check(trip.carried)?;
-        check(trip.text.as_str().starts_with("bytes to come: 30\nread a key code\n  film_manufacturer_code: -1\n"))?;
-        check(trip.text.as_str().ends_with("bytes taken: 28\nverdict: the same bytes\n"))
+        check(
+            trip.text.as_str().starts_with(
+                "bytes to come: 30\nread a key code\n  film_manufacturer_code: -1\n",
+            ),
+        )?;
+        check(
+            trip.text
+                .as_str()
+                .ends_with("bytes taken: 28\nverdict: the same bytes\n"),
+        )
     }
 }

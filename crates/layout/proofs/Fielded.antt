@@ -33,9 +33,9 @@ fields-back (f ∷ fs) [] xs rest is = absurd is
 fields-back (f ∷ fs) (n ∷ ns) xs rest (bs, more, e, long, ok, it, is) =
     ap (λ (t : Bytes). fields (f ∷ fs) t) (ap (λ (t : Bytes). t ++ rest) e ∙ append-assoc bs more rest)
     ∙ ap (λ (a : Answer Bytes). next a (λ bs r. next (asked (f .admits (whole bs)) (f .question) (bs, r)) (λ bs r.
-        next (fields fs r) (λ ns r. Ok (f .keeps (whole bs) ∷ ns, r))))) (part-back (f .width) bs (more ++ rest) long)
+    next (fields fs r) (λ ns r. Ok (f .keeps (whole bs) ∷ ns, r))))) (part-back (f .width) bs (more ++ rest) long)
     ∙ ap (λ (t : Bool). next (asked t (f .question) (bs, more ++ rest)) (λ bs r.
-        next (fields fs r) (λ ns r. Ok (f .keeps (whole bs) ∷ ns, r)))) ok
+    next (fields fs r) (λ ns r. Ok (f .keeps (whole bs) ∷ ns, r)))) ok
     ∙ ap (λ (a : Answer (List ℕ)). next a (λ ns r. Ok (f .keeps (whole bs) ∷ ns, r))) (fields-back fs ns more rest is)
     ∙ ap (λ (m : ℕ). Ok (m ∷ ns, rest)) (sym it)
 
@@ -63,12 +63,12 @@ fields-asks (f ∷ fs) xs =
     subst (λ (z : Bytes). Asks (fieldQuestions (f ∷ fs) xs) (numbersAt (f ∷ fs) xs) z (fields (f ∷ fs) xs)) (drop-drop (size fs) w xs)
     (asks-next ((6, w ≤ length xs) ∷ []) ((f .question, f .admits (whole b) ≡ true) ∷ fieldQuestions fs r) b (numbersAt (f ∷ fs) xs) r (drop (size fs) r) (part w xs) _ (part-asks w xs)
     (asks-next ((f .question, f .admits (whole b) ≡ true) ∷ []) (fieldQuestions fs r) b (numbersAt (f ∷ fs) xs) r (drop (size fs) r) (asked (f .admits (whole b)) (f .question) (b, r)) _
-        (asks-asked (f .admits (whole b) ≡ true) (f .admits (whole b)) (f .question) b r (λ e. e) (λ e. e))
+    (asks-asked (f .admits (whole b) ≡ true) (f .admits (whole b)) (f .question) b r (λ e. e) (λ e. e))
     (ended (fields fs r) (fields-asks fs r))))
   where
     ended : (a : Answer (List ℕ)) → Asks (fieldQuestions fs (drop (f .width) xs)) (numbersAt fs (drop (f .width) xs)) (drop (size fs) (drop (f .width) xs)) a →
         Asks (fieldQuestions fs (drop (f .width) xs)) (f .keeps (whole (take (f .width) xs)) ∷ numbersAt fs (drop (f .width) xs)) (drop (size fs) (drop (f .width) xs))
-            (next a (λ ns r. Ok (f .keeps (whole (take (f .width) xs)) ∷ ns, r)))
+        (next a (λ ns r. Ok (f .keeps (whole (take (f .width) xs)) ∷ ns, r)))
     ended (Ok p) s = (s .0, ap (λ (ns : List ℕ). f .keeps (whole (take (f .width) xs)) ∷ ns) (s .1), s .2)
     ended (Err q) s = s
 

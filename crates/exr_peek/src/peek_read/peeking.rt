@@ -40,7 +40,10 @@ impl<S: Source> PeekRead<S> {
         ensures inner { λ r. ⌜ r .inner ≡ inner ⌝ }
         ensures peeked { λ r. ⌜ r .peeked ≡ None ⌝ }
     {
-        PeekRead { inner, peeked: None }
+        PeekRead {
+            inner,
+            peeked: None,
+        }
     }
 
     /// The byte that comes next, which is kept and still to come, or the stop.

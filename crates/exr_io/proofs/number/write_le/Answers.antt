@@ -15,10 +15,10 @@ returns g c =
     let front : size - 0 ≡ w = omega (arith, c .size-in-bytes-size .ensures .size) in
     let few : w ≤ 8 = omega (arith, c .size-in-bytes-size .ensures .size, c .size-in-bytes-size .ensures .most) in
     let bytes-are : take (size - 0) (c .to-le-bytes-bytes .result) ≡ lowFirst w (g .D·Data .bits (c .args .number)) =
-      ap (λ k. take k (c .to-le-bytes-bytes .result)) front
-      ∙ ap (take w) (c .to-le-bytes-bytes .ensures ∙ eight-lowFirst n)
-      ∙ take-lowFirst w 8 n few
-      ∙ ap (lowFirst w) (c .to-word .ensures .word) in
+    ap (λ k. take k (c .to-le-bytes-bytes .result)) front
+    ∙ ap (take w) (c .to-le-bytes-bytes .ensures ∙ eight-lowFirst n)
+    ∙ take-lowFirst w 8 n few
+    ∙ ap (lowFirst w) (c .to-word .ensures .word) in
     record {
       takes = gave-same _ _ _ _ _ bytes-are (c .write-all .ensures .takes);
       kept = c .write-all .ensures .kept;

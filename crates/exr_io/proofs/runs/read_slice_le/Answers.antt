@@ -21,9 +21,10 @@ returns-in-Break-x g c =
 pub loop-x-again : need.loop-x-again
 loop-x-again g c =
     let q = c .in-Continue-x .ensures tt in
-    let h : c .loop-x .x-index < length (c .loop-x .slice) = omega arith in
-    (reading-more _ _ _ _ _ _ _ (c .loop-x .inv .0) h _ _ (q .gives),
-      g .S·Source .steady .on _ _ _ (c .loop-x .inv .1) (q .kept))
+    let h : c .loop-x .x-index < length (c .loop-x .slice) = omega arith in (
+      reading-more _ _ _ _ _ _ _ (c .loop-x .inv .0) h _ _ (q .gives),
+      g .S·Source .steady .on _ _ _ (c .loop-x .inv .1) (q .kept),
+    )
 
 pub returns : need.returns
 returns g c = record {

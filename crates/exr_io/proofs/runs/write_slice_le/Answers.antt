@@ -26,9 +26,10 @@ returns-in-Break-write-le g c =
 pub loop-x-again : need.loop-x-again
 loop-x-again g c =
     let q = c .in-Continue-write-le .ensures tt in
-    let more = joined-next (λ x. lowFirst (g .D·Data .width) (g .D·Data .bits x)) (c .args .slice .now) (c .loop-x .x-index) (c .x-item .result) (c .loop-x-test .taken) (c .x-item .is) in
-    (rw more (gave-on _ _ _ _ _ _ (c .loop-x .inv .0) (q .takes)),
-      g .W·Sink .steady .on _ _ _ (c .loop-x .inv .1) (q .kept))
+    let more = joined-next (λ x. lowFirst (g .D·Data .width) (g .D·Data .bits x)) (c .args .slice .now) (c .loop-x .x-index) (c .x-item .result) (c .loop-x-test .taken) (c .x-item .is) in (
+      rw more (gave-on _ _ _ _ _ _ (c .loop-x .inv .0) (q .takes)),
+      g .W·Sink .steady .on _ _ _ (c .loop-x .inv .1) (q .kept),
+    )
 
 pub returns : need.returns
 returns g c =

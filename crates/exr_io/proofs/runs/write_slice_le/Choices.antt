@@ -8,4 +8,4 @@ use Rattle.exr_io.proofs.runs.write_slice_le.Given as given
 abbrev pub Inv-loop-x : given.InvT-loop-x
 Inv-loop-x g l =
     GaveAll (g .W·Sink .means (l .entry .sink)) (joined (λ x. lowFirst (g .D·Data .width) (g .D·Data .bits x)) (take (l .x-index) (l .slice))) (Ok tt) (g .W·Sink .means (l .sink))
-      × g .W·Sink .keeps (l .entry .sink) (l .sink)
+    × g .W·Sink .keeps (l .entry .sink) (l .sink)

@@ -13,6 +13,7 @@ returns-in-Break-k g c =
     }
 
 pub loop-given-again : need.loop-given-again
-loop-given-again g c =
-    (giving-more _ _ _ _ (c .loop-given .inv .0) _ _ (c .in-Continue-k .ensures tt .takes),
-      g .W·Sink .steady .on _ _ _ (c .loop-given .inv .1) (c .in-Continue-k .ensures tt .kept))
+loop-given-again g c = (
+  giving-more _ _ _ _ (c .loop-given .inv .0) _ _ (c .in-Continue-k .ensures tt .takes),
+  g .W·Sink .steady .on _ _ _ (c .loop-given .inv .1) (c .in-Continue-k .ensures tt .kept),
+)

@@ -3,9 +3,10 @@ use Rattle.exr_source.proofs.Filling.{filling-more, filling-stopped, filling-d
 use Rattle.exr_source.proofs.read.read_exact.Needs as need
 
 pub loop-filled-again : need.loop-filled-again
-loop-filled-again g c =
-    (filling-more _ _ _ _ _ (c .loop-filled .inv .0) _ _ _ (c .in-Ok .ensures tt .gives),
-      g .S·Source .steady .on _ _ _ (c .loop-filled .inv .1) (c .in-Ok .ensures tt .kept))
+loop-filled-again g c = (
+  filling-more _ _ _ _ _ (c .loop-filled .inv .0) _ _ _ (c .in-Ok .ensures tt .gives),
+  g .S·Source .steady .on _ _ _ (c .loop-filled .inv .1) (c .in-Ok .ensures tt .kept),
+)
 
 pub returns-in-Err : need.returns-in-Err
 returns-in-Err g c =
