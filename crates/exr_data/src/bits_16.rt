@@ -53,7 +53,7 @@ pub impl Data for i16 as I16Data {
 
 /// A half float, by its bits. All of them are kept, also of what is not a
 /// number.
-#[derive(Clone, Copy, PartialEq, Eq)]
+#[derive(Clone, Copy)]
 pub struct F16 {
     pub bits: u16,
 }

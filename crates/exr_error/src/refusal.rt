@@ -72,7 +72,7 @@ pub enum Refusal {
 
 /// Where a question belongs: to the source or sink, to the name, kind and
 /// size of a record, to the fields of a value, or to the header's table.
-#[derive(Clone, Copy, PartialEq, Eq)]
+#[derive(Clone, Copy)]
 pub enum Layer {
     Device,
     Record,
@@ -81,7 +81,7 @@ pub enum Layer {
 }
 
 /// The variant of the Rust crate's error that a refusal stands for.
-#[derive(Clone, Copy, PartialEq, Eq)]
+#[derive(Clone, Copy)]
 pub enum Error {
     NotSupported,
     Invalid,

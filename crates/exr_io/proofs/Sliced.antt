@@ -16,7 +16,7 @@ use Rattle.exr_error.specs.declared.stop.Stop.{Stop}
 use Rattle.layout.specs.Numbers.{Bytes, whole}
 use Rattle.layout.specs.Streams.{SourceMeaning, sourceOf, after}
 use Rattle.exr_source.specs.Requests.{stopAt}
-use Rattle.exr_source.specs.Fills.{come}
+use Rattle.exr_read.specs.Fills.{come}
 use Rattle.exr_io.specs.Reads.{oneOr, ReadLe}
 use Rattle.exr_io.specs.Runs.{ReadRun, readInto}
 

@@ -15,7 +15,7 @@ use Rattle.std.specs.declared.result.Result.the-variants.{Ok, Err}
 use Rattle.layout.specs.Numbers.{Bytes, EachByte, whole, range}
 use Rattle.layout.specs.Streams.{SourceMeaning, after}
 use Rattle.exr_source.specs.Requests.{laid}
-use Rattle.exr_source.specs.Fills.{allOr, come, Filled}
+use Rattle.exr_read.specs.Fills.{allOr, come, Filled}
 use Rattle.exr_io.specs.Reads.{oneOr, ReadLe}
 use Rattle.exr_io.proofs.Words.{zeros, eightWhole, whole-eight, whole-before-zeros, whole-small}
 

@@ -13,7 +13,7 @@ use Rattle.exr_error.specs.declared.stop.Stop.{Stop}
 use Rattle.layout.specs.Numbers.{Bytes, whole, lowFirst}
 use Rattle.layout.specs.Streams.{SourceMeaning, after}
 use Rattle.exr_source.specs.Requests.{stopAt}
-use Rattle.exr_source.specs.Fills.{come}
+use Rattle.exr_read.specs.Fills.{come}
 
 -- a value, or the stop
 abbrev pub oneOr : {X : Type 0} → Bool → X → Option ℕ → Result X Stop

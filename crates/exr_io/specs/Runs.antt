@@ -10,7 +10,7 @@ use Rattle.std.specs.Joined.{joined}
 use Rattle.exr_error.specs.declared.stop.Stop.{Stop}
 use Rattle.layout.specs.Numbers.{Bytes, whole, lowFirst}
 use Rattle.layout.specs.Streams.{SourceMeaning, after}
-use Rattle.exr_source.specs.Fills.{come}
+use Rattle.exr_read.specs.Fills.{come}
 use Rattle.exr_io.specs.Reads.{oneOr}
 
 -- the places of a slice, each overwritten by the number that comes for it, while numbers come whole

@@ -12,7 +12,7 @@ use Rattle.exr_error.specs.declared.stop.Full.{Full}
 use Rattle.layout.specs.Numbers.{Bytes}
 use Rattle.layout.specs.Streams.{SinkMeaning, sinkOf, with}
 use Rattle.exr_sink.specs.Gifts.{full, allOr, Took, Refused, GaveAll}
-use Rattle.exr_source.proofs.Filling.{take-add, lent}
+use Rattle.layout.proofs.Parts.{take-add, lent}
 
 -- where a loop that gives the bytes has come to
 pub record Giving (m : SinkMeaning) (bs : Bytes) (f : ℕ) (m′ : SinkMeaning) : Type 0 where

@@ -16,7 +16,7 @@ use Rattle.exr_error.specs.declared.stop.Full.{Full}
 use Rattle.layout.specs.Numbers.{Bytes}
 use Rattle.layout.specs.Streams.{SinkMeaning, sinkOf, with}
 use Rattle.exr_sink.specs.Gifts.{full, allOr, GaveAll}
-use Rattle.exr_source.proofs.Filling.{take-add}
+use Rattle.layout.proofs.Parts.{take-add}
 
 -- the same bytes
 pub gave-same : (m : SinkMeaning) (bs cs : Bytes) (r : Result (Unit {0}) Full) (m′ : SinkMeaning) → bs ≡ cs → GaveAll m bs r m′ → GaveAll m cs r m′

@@ -1,4 +1,3 @@
 pub mod Requests
-pub mod Fills
 pub mod Keeping
 pub mod Properly

@@ -4,5 +4,4 @@ pub mod bytes;
 pub mod chain;
 pub mod held;
 pub mod lend;
-pub mod read;
 pub mod source;

@@ -18,9 +18,9 @@ use Rattle.layout.specs.KeyCodes.{keyCode, keyCodeBytes}
 use Rattle.layout.proofs.Numbered.{bytes-take}
 use Rattle.layout.proofs.Keyed.{key-code-back, key-code-carried, key-code-there}
 use Rattle.exr_error.specs.declared.fault.Fault.{Fault}
-use Rattle.exr_source.specs.declared.read.Short.{Short}
-use Rattle.exr_source.specs.Fills.{shortFault}
-use Rattle.exr_source.proofs.Filling.{Whole, Cut}
+use Rattle.exr_read.specs.declared.read.Short.{Short}
+use Rattle.exr_read.specs.Fills.{shortFault}
+use Rattle.exr_read.proofs.Filling.{Whole, Cut}
 use Rattle.exr_value.specs.declared.key_code.KeyCode.{KeyCode}
 use Rattle.exr_value.specs.KeyCodes.{numbersOf, Fits, Taken, Key-codes-read-back}
 

@@ -59,38 +59,19 @@ fn refused(heap: Global, text: &mut String, fault: Fault) -> Result<(), AllocErr
 /// Each number under the name of its field.
 fn numbers(heap: Global, text: &mut String, key_code: KeyCode) -> Result<(), AllocError> {
     text.push_str("read a key code\n")?;
-    line(
-        heap,
-        text,
-        "  film_manufacturer_code: ",
-        key_code.film_manufacturer_code,
-    )?;
-    line(heap, text, "  film_type: ", key_code.film_type)?;
-    line(
-        heap,
-        text,
-        "  film_roll_prefix: ",
-        key_code.film_roll_prefix,
-    )?;
-    line(heap, text, "  count: ", key_code.count)?;
-    line(
-        heap,
-        text,
-        "  perforation_offset: ",
-        key_code.perforation_offset,
-    )?;
-    line(
-        heap,
-        text,
-        "  perforations_per_frame: ",
-        key_code.perforations_per_frame,
-    )?;
-    line(
-        heap,
-        text,
-        "  perforations_per_count: ",
-        key_code.perforations_per_count,
-    )
+    let rows = [
+        ("  film_manufacturer_code: ", key_code.film_manufacturer_code),
+        ("  film_type: ", key_code.film_type),
+        ("  film_roll_prefix: ", key_code.film_roll_prefix),
+        ("  count: ", key_code.count),
+        ("  perforation_offset: ", key_code.perforation_offset),
+        ("  perforations_per_frame: ", key_code.perforations_per_frame),
+        ("  perforations_per_count: ", key_code.perforations_per_count),
+    ];
+    for (name, number) in rows {
+        line(heap, text, name, number)?;
+    }
+    Ok(())
 }
 
 /// Writes the numbers to a block, and tells whether it took the bytes that the
@@ -149,46 +130,4 @@ fn hex(heap: Global, text: &mut String, words: &str, bytes: &[u8]) -> Result<(),
         text.push_str(format!(heap, "{byte:02x}")?.as_str())?;
     }
     text.push_str("\n")
-}
-
-#[cfg(test)]
-mod tests {
-    use super::*;
-    use std::test::*;
-
-    #[test]
-    fn no_bytes_are_refused(rt: LibcRuntime) -> Result<(), Fail> {
-        let trip = carry(rt.alloc(), &[])?;
-        check(!trip.carried)?;
-        check(
-            trip.text.as_str()
-                == "bytes to come: 0\nrefused: 18\nbytes given: 0\nnothing is written\n",
-        )
-    }
-
-    #[test]
-    fn six_numbers_are_refused(rt: LibcRuntime) -> Result<(), Fail> {
-        let trip = carry(rt.alloc(), &[1u8; 24])?;
-        check(!trip.carried)?;
-        check(
-            trip.text.as_str()
-                == "bytes to come: 24\nrefused: 18\nbytes given: 24\nnothing is written\n",
-        )
-    }
-
-    #[test]
-    fn surplus_stays_in_the_source(rt: LibcRuntime) -> Result<(), Fail> {
-        let trip = carry(rt.alloc(), &[255u8; 30])?;
-        check(trip.carried)?;
-        check(
-            trip.text.as_str().starts_with(
-                "bytes to come: 30\nread a key code\n  film_manufacturer_code: -1\n",
-            ),
-        )?;
-        check(
-            trip.text
-                .as_str()
-                .ends_with("bytes taken: 28\nverdict: the same bytes\n"),
-        )
-    }
 }

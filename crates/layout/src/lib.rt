@@ -1,7 +1,8 @@
 //! The published layout: definitions and their laws. There is no code type
 //! here: each function owns a theorem about the definitions of specs/.
-ghost use Rattle.layout.specs.Fields.{Fields-stand};
-ghost use Rattle.layout.specs.KeyCodes.{Key-codes-stand};
+ghost use mathlib.Core.Path.{_≡_};
+ghost use Rattle.layout.specs.Fields.{Fields-stand, size};
+ghost use Rattle.layout.specs.KeyCodes.{keyCode, Key-codes-stand};
 ghost use Rattle.layout.specs.Numbers.{Numbers-as-bytes};
 
 /// Numbers have their bytes lowest first, and read back from them.
@@ -20,3 +21,10 @@ pub fn fields_stand()
 pub fn key_codes_stand()
     ensures { λ _. ⌜ Key-codes-stand ⌝ }
 {}
+
+/// How many bytes a key code has.
+pub fn key_code_size() -> usize
+    ensures { λ r. ⌜ r ≡ size keyCode ⌝ }
+{
+    28usize
+}

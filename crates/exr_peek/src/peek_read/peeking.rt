@@ -2,11 +2,11 @@ ghost use mathlib.Core.Path.{_≡_};
 ghost use Rattle.std.specs.declared.option.Option.the-variants.{None};
 ghost use Rattle.std.specs.Results.{okPart};
 ghost use Rattle.layout.specs.Streams.{sourceOf};
-ghost use Rattle.exr_source.specs.Fills.{nextOf};
+ghost use Rattle.exr_read.specs.Fills.{nextOf};
 ghost use Rattle.exr_peek.specs.Peeks.{peekMeans, peek-proper, PeekKept, peek-steady, isNext, sansNext};
 use crate::peek_read::PeekRead;
 use exr_error::stop::Stop;
-use exr_source::read::read_byte;
+use exr_read::read::read_byte;
 use exr_source::source::Source;
 
 pub impl<S: Source> Source for PeekRead<S> as PeekReadSource {

@@ -1,7 +1,7 @@
 use mathlib.Core.Path.{refl, ap, _∙_}
 use Rattle.std.specs.declared.result.Result.the-variants.{Err}
 use Rattle.std.proofs.shelf.Results.{err-from-errBy}
-use Rattle.exr_source.proofs.Filling.{filled-whole, filled-cut}
+use Rattle.exr_read.proofs.Filling.{filled-whole, filled-cut}
 use Rattle.exr_value.proofs.Keys.{key-code-taken, key-code-cut, key-code-read}
 use Rattle.exr_value.proofs.key_code.KeyCode.read_from.Needs as need
 

@@ -1,6 +1,6 @@
 use native.Mathlib.Omega.{arith}
-use Rattle.exr_source.proofs.Filling.{filling-more, filling-stopped, filling-done}
-use Rattle.exr_source.proofs.read.read_exact.Needs as need
+use Rattle.exr_read.proofs.Filling.{filling-more, filling-stopped, filling-done}
+use Rattle.exr_read.proofs.read.read_exact.Needs as need
 
 pub loop-filled-again : need.loop-filled-again
 loop-filled-again g c = (

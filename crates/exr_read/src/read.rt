@@ -1,11 +1,11 @@
 ghost use mathlib.Core.Path.{_≡_};
 ghost use Rattle.layout.specs.Streams.{after};
-ghost use Rattle.exr_source.specs.Fills.{Filled, nextOf, shortFault};
-use crate::source::Source;
+ghost use Rattle.exr_read.specs.Fills.{Filled, nextOf, shortFault};
 use exr_error::fault::Fault;
 use exr_error::refusal::Refusal;
 use exr_error::refusal::StopRefusal;
 use exr_error::stop::Stop;
+use exr_source::source::Source;
 
 /// A source stopped before all bytes that were wanted had come: its stop, and
 /// how many had come.

@@ -1,7 +1,7 @@
 use Prim.Native.Nat.{_-_}
 use lib.ListN.{length}
-use Rattle.exr_source.proofs.Filling.{Filling}
-use Rattle.exr_source.proofs.read.read_exact.Given as given
+use Rattle.exr_read.proofs.Filling.{Filling}
+use Rattle.exr_read.proofs.read.read_exact.Given as given
 
 abbrev pub Inv-loop-filled : given.InvT-loop-filled
 Inv-loop-filled g l =

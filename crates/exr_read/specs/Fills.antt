@@ -13,8 +13,8 @@ use Rattle.exr_error.specs.declared.fault.Fault.{Fault}
 use Rattle.exr_error.specs.Refusals.{ended}
 use Rattle.layout.specs.Numbers.{Bytes}
 use Rattle.layout.specs.Streams.{SourceMeaning, after}
-use Rattle.exr_source.specs.declared.read.Short.{Short}
+use Rattle.exr_read.specs.declared.read.Short.{Short}
 use Rattle.exr_source.specs.Requests.{stopAt, laid}
 
 abbrev pub short : Option ℕ → ℕ → Short
 short s n = record { stop = stopAt s; got = n }

@@ -14,15 +14,11 @@ use Rattle.std.specs.declared.result.Result.{Result}
 use Rattle.std.specs.declared.result.Result.the-variants.{Ok, Err}
 use Rattle.exr_error.specs.declared.stop.Stop.{Stop}
 use Rattle.layout.specs.Numbers.{Bytes}
+use Rattle.layout.proofs.Parts.{take-add, lent}
 use Rattle.layout.specs.Streams.{SourceMeaning, sourceOf, after}
-use Rattle.exr_source.specs.declared.read.Short.{Short}
+use Rattle.exr_read.specs.declared.read.Short.{Short}
 use Rattle.exr_source.specs.Requests.{stopAt, laid, Given, Stopped}
-use Rattle.exr_source.specs.Fills.{short, allOr, come, wanted, Filled}
-
-pub take-add : {X : Type 0} (f k : ℕ) (xs : List X) → take (f + k) xs ≡ take f xs ++ take k (drop f xs)
-take-add f k xs =
-    let below : f ≤ f + k = omega arith in
-    sym (take-append-drop f (take (f + k) xs)) ∙ rw (take-take f (f + k) xs below, drop-take)
+use Rattle.exr_read.specs.Fills.{short, allOr, come, wanted, Filled}
 
 -- what is lent from f on ends where the buffer ends
 put-rest : {X : Type 0} (f : ℕ) (buffer part : List X) → putMid f (length buffer - f) buffer part ≡ take f buffer ++ part
@@ -46,10 +42,6 @@ pub record Filling (m : SourceMeaning) (buffer : Bytes) (f : ℕ) (m′ : Source
   pub there : f ≤ length (m .bytes)
   pub laid-in : buffer′ ≡ laid f (m .bytes) buffer
   pub left : m′ ≡ after f m
-
--- what `&mut buffer[f..]` lends
-abbrev pub lent : {X : Type 0} → ℕ → List X → List X
-lent f buffer = take (length buffer - f) (drop f buffer)
 
 module _ (m : SourceMeaning) (buffer : Bytes) (f : ℕ) (m′ : SourceMeaning) (buffer′ : Bytes) (i : Filling m buffer f m′ buffer′) where
   lent-is : lent f buffer′ ≡ drop f buffer
