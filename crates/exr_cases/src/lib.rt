@@ -6,6 +6,4 @@ mod quotients;
 #[cfg(test)]
 mod streams;
 #[cfg(test)]
-mod trips;
-#[cfg(test)]
 mod vectors;

@@ -9,6 +9,8 @@ use exr_io::number::write_le;
 use exr_io::sequence_end::has_come;
 use exr_peek::peek_read::PeekRead;
 use exr_peek::peek_read::peeking::PeekReadSource;
+use exr_read::read::read_byte;
+use exr_read::read::read_exact;
 use exr_sink::block::Block;
 use exr_sink::block::BlockSink;
 use exr_sink::lent::LentBuffer;
@@ -18,8 +20,6 @@ use exr_source::chain::Chain;
 use exr_source::chain::ChainSource;
 use exr_source::held::HeldBytes;
 use exr_source::held::HeldBytesSource;
-use exr_read::read::read_exact;
-use exr_read::read::read_byte;
 use std::test::*;
 
 fn ended(stop: Stop) -> bool {

@@ -5,9 +5,9 @@ ghost use Rattle.exr_io.specs.Reads.{ReadLe};
 use exr_data::data::Data;
 use exr_error::stop::Full;
 use exr_error::stop::Stop;
+use exr_read::read::read_exact;
 use exr_sink::sink::Sink;
 use exr_sink::write::write_all;
-use exr_read::read::read_exact;
 use exr_source::source::Source;
 
 /// Gives the bytes of a number to a sink, the lowest first.

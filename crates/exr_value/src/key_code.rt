@@ -11,9 +11,9 @@ use exr_error::fault::Fault;
 use exr_error::refusal::Refusal;
 use exr_error::stop::Full;
 use exr_io::runs::write_slice_le;
-use exr_sink::sink::Sink;
 use exr_read::read::ShortFault;
 use exr_read::read::read_exact;
+use exr_sink::sink::Sink;
 use exr_source::source::Source;
 
 /// Identifies a frame of motion picture film.

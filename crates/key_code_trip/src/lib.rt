@@ -60,13 +60,22 @@ fn refused(heap: Global, text: &mut String, fault: Fault) -> Result<(), AllocErr
 fn numbers(heap: Global, text: &mut String, key_code: KeyCode) -> Result<(), AllocError> {
     text.push_str("read a key code\n")?;
     let rows = [
-        ("  film_manufacturer_code: ", key_code.film_manufacturer_code),
+        (
+            "  film_manufacturer_code: ",
+            key_code.film_manufacturer_code,
+        ),
         ("  film_type: ", key_code.film_type),
         ("  film_roll_prefix: ", key_code.film_roll_prefix),
         ("  count: ", key_code.count),
         ("  perforation_offset: ", key_code.perforation_offset),
-        ("  perforations_per_frame: ", key_code.perforations_per_frame),
-        ("  perforations_per_count: ", key_code.perforations_per_count),
+        (
+            "  perforations_per_frame: ",
+            key_code.perforations_per_frame,
+        ),
+        (
+            "  perforations_per_count: ",
+            key_code.perforations_per_count,
+        ),
     ];
     for (name, number) in rows {
         line(heap, text, name, number)?;
