@@ -6,8 +6,6 @@ use exr_vec2::Vec2;
 use exr_vec2::Vec2FromPair;
 use exr_vec2::Vec2PartialEq;
 use exr_vec2_ops::add;
-use exr_vec2_ops::div;
-use exr_vec2_ops::mul;
 use exr_vec2_ops::neg;
 use exr_vec2_ops::sub;
 use std::test::*;
@@ -26,28 +24,11 @@ fn sums_and_differences() -> Result<(), Fail> {
 }
 
 #[test]
-fn products_and_quotients() -> Result<(), Fail> {
-    check(mul(Vec2(65536i32, 2), Vec2(32768, 3)) == None)?;
-    check(div(Vec2(-7i32, 7), Vec2(2, -2)) == Some(Vec2(-3, -3)))?;
-    check(div(Vec2(LEAST, 1), Vec2(-1, 1)) == None)?;
-    check(div(Vec2(4i32, 1), Vec2(2, 0)) == None)
-}
-
-#[test]
 fn areas_and_indices() -> Result<(), Fail> {
     check_eq(Vec2(46341i32, 46341).area(), None)?;
     check_eq(Vec2(3i32, 2).flat_index_for_size(Vec2(4, 3)), Some(11))?;
     check_eq(Vec2(4usize, 2).flat_index_for_size(Vec2(4, 3)), None)?;
     check_eq(Vec2(-1i32, 0).flat_index_for_size(Vec2(1, 1)), None)
-}
-
-#[test]
-fn conversions() -> Result<(), Fail> {
-    check(Vec2(0, -1).to_usize() == None)?;
-    check(Vec2(2147483647usize, 2).to_i32() == Some(Vec2(GREATEST, 2)))?;
-    check(Vec2(2, 2147483648usize).to_i32() == None)?;
-    let v: Vec2<u8> = Vec2::try_from(Vec2(255u32, 1))?;
-    check(v == Vec2(255, 1))
 }
 
 #[test]

@@ -1,12 +1,13 @@
 -- What a source with a kept byte means, and what stays of it.
-use Prim.Native.Nat.{ℕ}
+use Prim.Native.Nat.{ℕ, _<_}
 use mathlib.Core.Path.{_≡_, refl, _∙_}
 use mathlib.Core.Bool.{Bool, cond}
 use mathlib.Core.List.{List, [], _∷_}
 use mathlib.Core.Logic.{_⊎_, inl, inr}
 use lib.Dec.{eqb}
+use lib.ListN.{length}
 use Rattle.std.specs.declared.option.Option.{Option}
-use Rattle.std.specs.declared.option.Option.the-variants.{None}
+use Rattle.std.specs.declared.option.Option.the-variants.{Some, None}
 use Rattle.std.specs.declared.result.Result.{Result}
 use Rattle.std.specs.declared.result.Result.the-variants.{Ok, Err}
 use Rattle.exr_error.specs.declared.stop.Stop.{Stop}
@@ -23,6 +24,14 @@ peekMeans below p = keptBefore (p .peeked) (below (p .inner))
 
 pub peek-proper : {S : Type 0} (below : S → SourceMeaning) → ((s : S) → Proper (below s)) → (p : PeekRead S) → Proper (peekMeans below p)
 peek-proper below proper p = kept-proper (p .peeked) (below (p .inner)) (p .below) (proper (p .inner))
+
+-- a kept byte is given alone: one byte comes, none is kept then, and nothing is asked below
+abbrev pub AloneAt : {S : Type 0} → Option ℕ → S → Bytes → Result ℕ Stop → PeekRead S → Type 0
+AloneAt None inner buffer r t = Unit {0}
+AloneAt (Some b) inner buffer r t = 0 < length buffer → (r ≡ Ok 1) × (t .peeked ≡ None) × (t .inner ≡ inner)
+
+abbrev pub Alone : {S : Type 0} → PeekRead S → Bytes → Result ℕ Stop → PeekRead S → Type 0
+Alone s buffer r t = AloneAt (s .peeked) (s .inner) buffer r t
 
 -- whether the byte that comes next is a given one, and what is to come once such a byte is taken
 abbrev pub isNext : Bytes → Option ℕ → ℕ → Result Bool Stop

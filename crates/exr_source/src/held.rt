@@ -24,14 +24,6 @@ impl<'a> HeldBytes<'a> {
         each_byte(bytes);
         HeldBytes { rest: bytes }
     }
-
-    /// The bytes that have not been given yet.
-    pub fn rest(&self) -> &[u8]
-        ensures { λ r. ⌜ now r ≡ now (now (self .entry) .rest) ⌝ }
-    {
-        let rest = self.rest;
-        rest
-    }
 }
 
 pub impl<'a> Source for HeldBytes<'a> as HeldBytesSource {

@@ -3,5 +3,4 @@
 pub mod bytes;
 pub mod chain;
 pub mod held;
-pub mod lend;
 pub mod source;

@@ -43,7 +43,7 @@ pub fn carry(heap: Global, bytes: &[u8]) -> Result<Trip, AllocError>
         }
         Ok(key_code) => {
             numbers(heap, &mut text, key_code)?;
-            let given = bytes.len().saturating_sub(source.rest().len());
+            let given = bytes.len().min(KeyCode::byte_size());
             let carried = written(heap, &mut text, key_code, &bytes[0..given])?;
             Ok(Trip { text, carried })
         }

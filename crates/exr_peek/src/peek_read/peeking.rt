@@ -3,7 +3,8 @@ ghost use Rattle.std.specs.declared.option.Option.the-variants.{None};
 ghost use Rattle.std.specs.Results.{okPart};
 ghost use Rattle.layout.specs.Streams.{sourceOf};
 ghost use Rattle.exr_read.specs.Fills.{nextOf};
-ghost use Rattle.exr_peek.specs.Peeks.{peekMeans, peek-proper, PeekKept, peek-steady, isNext, sansNext};
+ghost use Rattle.exr_source.specs.Requests.{Requested};
+ghost use Rattle.exr_peek.specs.Peeks.{Alone, peekMeans, peek-proper, PeekKept, peek-steady, isNext, sansNext};
 use crate::peek_read::PeekRead;
 use exr_error::stop::Stop;
 use exr_read::read::read_byte;
@@ -18,8 +19,12 @@ pub impl<S: Source> Source for PeekRead<S> as PeekReadSource {
 
     ghost steady = { peek-steady (S·Source .means) (S·Source .steady) };
 
-    // A kept byte is given alone: nothing is asked below.
-    fn read(&mut self, buffer: &mut [u8]) -> Result<usize, Stop> {
+    /// A kept byte is given alone: nothing is asked below.
+    fn read(&mut self, buffer: &mut [u8]) -> Result<usize, Stop>
+        ensures gives { λ r. ⌜ Requested (peekMeans (S·Source .means) (now (self .entry))) (now (buffer .entry)) r (peekMeans (S·Source .means) (now (self .exit))) (now (buffer .exit)) ⌝ }
+        ensures kept { λ _. ⌜ PeekKept (S·Source .means) (S·Source .keeps) (now (self .entry)) (now (self .exit)) ⌝ }
+        ensures alone { λ r. ⌜ Alone (now (self .entry)) (now (buffer .entry)) r (now (self .exit)) ⌝ }
+    {
         if buffer.len() == 0 {
             return Ok(0);
         }
