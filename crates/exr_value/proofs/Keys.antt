@@ -13,9 +13,10 @@ use Rattle.std.specs.declared.result.Result.{Result}
 use Rattle.std.specs.declared.result.Result.the-variants.{Ok, Err}
 use Rattle.layout.specs.Numbers.{Bytes, EachByte, range}
 use Rattle.layout.specs.Streams.{SourceMeaning}
-use Rattle.layout.specs.Fields.{fields, Held}
+use Rattle.layout.specs.Fields.{integers, Held}
 use Rattle.layout.specs.KeyCodes.{keyCode, keyCodeBytes}
 use Rattle.layout.proofs.Numbered.{bytes-take}
+use Rattle.layout.proofs.Fielded.{integers-are}
 use Rattle.layout.proofs.Keyed.{key-code-back, key-code-carried, key-code-there}
 use Rattle.exr_error.specs.declared.fault.Fault.{Fault}
 use Rattle.exr_read.specs.declared.read.Short.{Short}
@@ -26,10 +27,10 @@ use Rattle.exr_value.specs.KeyCodes.{numbersOf, Fits, Taken, Key-codes-read-ba
 
 -- bytes that filled a buffer of 28 and read as a key code are its bytes
 pub key-code-taken : (m : SourceMeaning) (buffer : Bytes) (m′ : SourceMeaning) (bytes : Bytes) (k : KeyCode) (rest : Bytes) → length buffer ≡ 28 → EachByte (m .bytes) →
-    Whole m buffer m′ bytes → Ok (numbersOf k, rest) ≡ fields keyCode bytes → Taken m (Ok k) m′
+    Whole m buffer m′ bytes → Ok (numbersOf k, rest) ≡ integers 7 bytes → Taken m (Ok k) m′
 key-code-taken m buffer m′ bytes k rest long each w e =
     let below : EachByte bytes = subst EachByte (sym (w .front)) (bytes-take (length buffer) (m .bytes) each) in
-    let same : bytes ≡ keyCodeBytes (numbersOf k) ++ rest = key-code-carried bytes rest (numbersOf k) below (sym e) in
+    let same : bytes ≡ keyCodeBytes (numbersOf k) ++ rest = key-code-carried bytes rest (numbersOf k) below (integers-are 7 bytes ∙ sym e) in
     let n : length bytes ≡ 28 = ap length (w .front) ∙ length-take-le (length buffer) (m .bytes) (w .enough) ∙ long in
     let none : length rest ≡ 0 = omega (arith, n, ap length same, length-append (keyCodeBytes (numbersOf k)) rest) in
     let all : bytes ≡ keyCodeBytes (numbersOf k) = same ∙ ap (λ t. keyCodeBytes (numbersOf k) ++ t) (nil-from-length rest none) ∙ append-nil (keyCodeBytes (numbersOf k)) in
@@ -41,10 +42,10 @@ key-code-cut m buffer s m′ r long c e =
     subst (λ (x : Result KeyCode Fault). Taken m x m′) (sym e) (omega (arith, long, c .less), ap shortFault (c .why), c .left)
 
 -- such bytes always do
-pub key-code-read : (m : SourceMeaning) (buffer : Bytes) (m′ : SourceMeaning) (bytes : Bytes) (q : ℕ) → length buffer ≡ 28 → Whole m buffer m′ bytes → Err q ≡ fields keyCode bytes → ⊥
+pub key-code-read : (m : SourceMeaning) (buffer : Bytes) (m′ : SourceMeaning) (bytes : Bytes) (q : ℕ) → length buffer ≡ 28 → Whole m buffer m′ bytes → Err q ≡ integers 7 bytes → ⊥
 key-code-read m buffer m′ bytes q long w e =
     let n : length bytes ≡ 28 = ap length (w .front) ∙ length-take-le (length buffer) (m .bytes) (w .enough) ∙ long in
-    key-code-there bytes q (omega (arith, n)) (sym e)
+    key-code-there bytes q (omega (arith, n)) (integers-are 7 bytes ∙ sym e)
 
 -- ---- read back
 

@@ -1,5 +1,5 @@
 ghost use mathlib.Core.Path.{_≡_};
-ghost use Rattle.layout.specs.Fields.{fields, size};
+ghost use Rattle.layout.specs.Fields.{integers, size};
 ghost use Rattle.layout.specs.KeyCodes.{keyCode, keyCodeBytes};
 ghost use Rattle.exr_sink.specs.Gifts.{GaveAll};
 ghost use Rattle.exr_value.specs.Seen.{seenBy};
@@ -46,7 +46,7 @@ impl KeyCode {
     /// The key code at the front of some bytes, and the bytes behind it; 6 if
     /// the bytes of one of its seven numbers are not there.
     pub fn read(bytes: &[u8]) -> Result<(KeyCode, &[u8]), Refusal>
-        ensures { λ r. ⌜ seenBy numbersOf r ≡ fields keyCode (now (bytes .entry)) ⌝ }
+        ensures { λ r. ⌜ seenBy numbersOf r ≡ integers 7 (now (bytes .entry)) ⌝ }
     {
         let (film_manufacturer_code, rest) = read_i32(bytes)?;
         let (film_type, rest) = read_i32(rest)?;

@@ -4,7 +4,7 @@ use mathlib.Core.Path.{_≡_, refl, ap, sym, _∙_, subst}
 use mathlib.Core.Bool.{Bool, true, false, cond}
 use mathlib.Core.List.{List, [], _∷_, _++_, append-assoc, append-nil}
 use native.Mathlib.Omega.{arith}
-use lib.ListN.{length, take, drop, length-append, length-drop}
+use lib.ListN.{length, take, drop, replicate, length-append, length-drop}
 use mathlib.Core.Logic.{_⊎_, inl, inr}
 use Rattle.std.specs.declared.option.Option.the-variants.{Some, None}
 use lib.Seq.{drop-drop}
@@ -12,7 +12,7 @@ use Rattle.std.specs.declared.result.Result.{Result}
 use Rattle.std.specs.declared.result.Result.the-variants.{Ok, Err}
 use Rattle.layout.specs.Numbers.{Bytes, EachByte, whole, range, lowFirst}
 use Rattle.layout.specs.Questions.{Question, FirstNo, Answer, next, asked, part}
-use Rattle.layout.specs.Fields.{Field, fields, fieldBytes, Numbers, Held, fieldQuestions, size, Fields-stand}
+use Rattle.layout.specs.Fields.{Field, i32, integers, fields, fieldBytes, Numbers, Held, fieldQuestions, size, Fields-stand}
 use Rattle.layout.proofs.Numbered.{length-lowFirst, bytes-lowFirst, whole-lowFirst, lowFirst-whole, bytes-append, bytes-front, bytes-behind}
 use Rattle.layout.proofs.Reading.{Sees, sees-next, sees-asked, sees-last, Exactly, part-sees, part-back, Asks, asks-next, asks-asked, part-asks}
 
@@ -108,10 +108,15 @@ fields-reads fs ns xs rest e = subst (Sees (Numbers fs) xs) e (fields-sees fs xs
 pub fields-refuse : (fs : List Field) (xs : Bytes) (q : ℕ) → fields fs xs ≡ Err q → FirstNo (fieldQuestions fs xs) (Some q)
 fields-refuse fs xs q e = subst (Asks (fieldQuestions fs xs) (numbersAt fs xs) (drop (size fs) xs)) e (fields-asks fs xs)
 
+pub integers-are : (k : ℕ) (xs : Bytes) → fields (replicate k i32) xs ≡ integers k xs
+integers-are zero xs = refl
+integers-are (suc k) xs = λ i. next (part 4 xs) (λ bs r. next (integers-are k r i) (λ ns r. Ok (whole bs ∷ ns, r)))
+
 pub fields-stand : Fields-stand
 fields-stand = record {
   reads = fields-reads;
   read = fields-back;
+  integers-are = integers-are;
   asks = fields-refuse;
   written = fields-written;
   sized = fields-sized;

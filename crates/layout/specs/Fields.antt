@@ -3,7 +3,7 @@ use Prim.Native.Nat.{ℕ, zero, suc, _+_, _<_, _≤_}
 use mathlib.Core.Bool.{Bool, true}
 use mathlib.Core.List.{List, [], _∷_, _++_}
 use mathlib.Core.Path.{_≡_}
-use lib.ListN.{length, take, drop}
+use lib.ListN.{length, take, drop, replicate}
 use Rattle.std.specs.declared.result.Result.the-variants.{Ok, Err}
 use Rattle.std.specs.declared.option.Option.the-variants.{Some, None}
 use Rattle.layout.specs.Numbers.{Bytes, EachByte, whole, range, lowFirst}
@@ -30,6 +30,11 @@ fields [] xs = Ok ([], xs)
 fields (f ∷ fs) xs =
     next (part (f .width) xs) (λ bs r. next (asked (f .admits (whole bs)) (f .question) (bs, r)) (λ bs r.
     next (fields fs r) (λ ns r. Ok (f .keeps (whole bs) ∷ ns, r))))
+
+-- the same where all fields are integers of four bytes: so many numbers, one directly after the other
+abbrev pub integers : ℕ → Bytes → Answer (List ℕ)
+integers zero xs = Ok ([], xs)
+integers (suc k) xs = next (part 4 xs) (λ bs r. next (integers k r) (λ ns r. Ok (whole bs ∷ ns, r)))
 
 abbrev pub fieldBytes : List Field → List ℕ → Bytes
 fieldBytes [] ns = []
@@ -71,6 +76,8 @@ pub record Fields-stand : Type 0 where
   -- numbers are read exactly where the front is these numbers, and the rest is what stands behind them
   pub reads : (fs : List Field) (ns : List ℕ) (xs rest : Bytes) → fields fs xs ≡ Ok (ns, rest) → (bs : Bytes) × (xs ≡ bs ++ rest) × Numbers fs ns bs
   pub read : (fs : List Field) (ns : List ℕ) (bs rest : Bytes) → Numbers fs ns bs → fields fs (bs ++ rest) ≡ Ok (ns, rest)
+  -- integers are such fields
+  pub integers-are : (k : ℕ) (xs : Bytes) → fields (replicate k i32) xs ≡ integers k xs
   -- a refusal names the first question answered no
   pub asks : (fs : List Field) (xs : Bytes) (q : ℕ) → fields fs xs ≡ Err q → FirstNo (fieldQuestions fs xs) (Some q)
   -- what is written is the numbers, in as many bytes as the fields have, each below 256
