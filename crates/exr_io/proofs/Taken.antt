@@ -15,6 +15,7 @@ use Rattle.std.specs.declared.result.Result.the-variants.{Ok, Err}
 use Rattle.layout.specs.Numbers.{Bytes, EachByte, whole, range}
 use Rattle.layout.specs.Streams.{SourceMeaning, after}
 use Rattle.exr_source.specs.Requests.{laid}
+use Rattle.exr_read.proofs.Filling.{ok-all}
 use Rattle.exr_read.specs.Fills.{allOr, come, Filled}
 use Rattle.exr_io.specs.Reads.{oneOr, ReadLe}
 use Rattle.exr_io.proofs.Words.{zeros, eightWhole, whole-eight, whole-before-zeros, whole-small}
@@ -31,10 +32,6 @@ drop-zeros : (w k : ℕ) → w ≤ k → drop w (zeros k) ≡ zeros (k - w)
 drop-zeros zero k h = let n : k ≡ k - 0 = omega arith in ap (λ n. zeros n) n
 drop-zeros (suc w) zero h = absurd (omega arith)
 drop-zeros (suc w) (suc k) h = let n : k - w ≡ suc k - suc w = omega arith in drop-zeros w k (omega arith) ∙ ap (λ n. zeros n) n
-
-all-came : (b : Bool) (x : Unit {0}) (s : Option ℕ) (n : ℕ) → Ok x ≡ allOr b s n → b ≡ true
-all-came true x s n e = refl
-all-came false x s n e = cc
 
 -- the part lent for the number
 abbrev pub lentFront : ℕ → Bytes
@@ -54,7 +51,7 @@ module _ (w size : ℕ) (same : size ≡ w) (most : size ≤ 8) (m : SourceMeani
   lent-long = ap length lent-is ∙ length-zeros w
 
   pub enough : w ≤ length (m .bytes)
-  enough = subst (λ n. n ≤ length (m .bytes)) lent-long (leb-true (length (lentFront size)) (length (m .bytes)) (all-came (leb (length (lentFront size)) (length (m .bytes))) x (m .stop) (length (m .bytes)) (f .answer)))
+  enough = subst (λ n. n ≤ length (m .bytes)) lent-long (leb-true (length (lentFront size)) (length (m .bytes)) (ok-all (leb (length (lentFront size)) (length (m .bytes))) x (m .stop) (length (m .bytes)) (f .answer)))
 
   all : come (length (lentFront size)) m ≡ w
   all = omega (arith, lent-long, enough)

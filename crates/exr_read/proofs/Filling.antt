@@ -96,7 +96,7 @@ module _ (m : SourceMeaning) (buffer : Bytes) (f : ℕ) (m′ : SourceMeaning) (
 
 -- ---- what a filled buffer tells
 
-ok-all : (b : Bool) (x : Unit {0}) (s : Option ℕ) (n : ℕ) → Ok x ≡ allOr b s n → b ≡ true
+pub ok-all : (b : Bool) (x : Unit {0}) (s : Option ℕ) (n : ℕ) → Ok x ≡ allOr b s n → b ≡ true
 ok-all true x s n e = refl
 ok-all false x s n e = cc
 
