@@ -12,9 +12,9 @@ use exr_source::source::Source;
 
 /// Gives the bytes of a number to a sink, the lowest first.
 pub fn write_le<D: Data, W: Sink>(sink: &mut W, number: D) -> Result<(), Full>
-    ensures takes { GaveAll (W.Sink.means sink.old) (low_first D.Data.width (D.Data.bits number)) result (W.Sink.means sink.new) }
-    ensures kept { W.Sink.keeps sink.old sink.new }
-    ensures valid { D.Data.fits number }
+    ensures takes { GaveAll (W.means sink.old) (low_first D.width (D.bits number)) result (W.means sink.new) }
+    ensures kept { W.keeps sink.old sink.new }
+    ensures valid { D.fits number }
 {
     let bytes = number.to_word().to_le_bytes();
     let size = D::size_in_bytes();
@@ -24,9 +24,9 @@ pub fn write_le<D: Data, W: Sink>(sink: &mut W, number: D) -> Result<(), Full>
 /// Takes the bytes of a number from a source, or answers the stop that came
 /// first.
 pub fn read_le<D: Data, S: Source>(source: &mut S) -> Result<D, Stop>
-    ensures gives { ReadLe D.Data.width D.Data.value (S.Source.means source.old) result (S.Source.means source.new) }
-    ensures kept { S.Source.keeps source.old source.new }
-    ensures valid { IfOk result D.Data.fits }
+    ensures gives { ReadLe D.width D.value (S.means source.old) result (S.means source.new) }
+    ensures kept { S.keeps source.old source.new }
+    ensures valid { IfOk result D.fits }
 {
     let mut bytes = [0u8; 8];
     let size = D::size_in_bytes();

@@ -27,9 +27,9 @@ pub fn write<W: Sink>(sink: &mut W) -> Result<(), Full>
 /// Whether the next byte is 00, which is then taken; another byte stays to
 /// come. Where none is to come, answers the stop.
 pub fn has_come<S: Source>(source: &mut PeekRead<S>) -> Result<bool, Stop>
-    ensures answer { result ≡ is_next (peek_means S.Source.means source.old).bytes (peek_means S.Source.means source.old).stop 0 }
-    ensures left { peek_means S.Source.means source.new ≡ source_of (sans_next (peek_means S.Source.means source.old).bytes 0) (peek_means S.Source.means source.old).stop }
-    ensures kept { S.Source.keeps source.old.inner source.new.inner }
+    ensures answer { result ≡ is_next (peek_means S.means source.old).bytes (peek_means S.means source.old).stop 0 }
+    ensures left { peek_means S.means source.new ≡ source_of (sans_next (peek_means S.means source.old).bytes 0) (peek_means S.means source.old).stop }
+    ensures kept { S.keeps source.old.inner source.new.inner }
 {
     source.skip_if_eq(0)
 }

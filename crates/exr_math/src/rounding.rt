@@ -29,7 +29,7 @@ impl RoundingMode {
     /// The quotient of `dividend` by `divisor`, rounded down or up, for every two numbers that have
     /// one. Answers `None` exactly where `dividend` is below 0 or `divisor` is below 1.
     pub fn divide<T: Number>(self, dividend: T, divisor: T) -> Option<T>
-        ensures { Divided value self (value dividend) (value divisor) result }
+        ensures { Divided T.value self (T.value dividend) (T.value divisor) result }
     {
         if dividend.is_below(T::from_u8(0)) || divisor.is_below(T::from_u8(1)) {
             return None;
@@ -43,8 +43,8 @@ impl RoundingMode {
 
 // The quotient rounded down: with these numbers, rounding toward zero is rounding down.
 fn divide_down<T: Number>(dividend: T, divisor: T) -> Option<T>
-    requires { CanDivide range (value dividend) (value divisor) }
-    ensures { Floor value (value dividend) (value divisor) result }
+    requires { CanDivide T.range (T.value dividend) (T.value divisor) }
+    ensures { Floor T.value (T.value dividend) (T.value divisor) result }
 {
     dividend.checked_div(divisor)
 }
@@ -52,8 +52,8 @@ fn divide_down<T: Number>(dividend: T, divisor: T) -> Option<T>
 // The quotient rounded up: 0 for 0, else one more than that of the number before, rounded down. No
 // sum on the way is above `dividend`.
 fn divide_up<T: Number>(dividend: T, divisor: T) -> Option<T>
-    requires { CanDivide range (value dividend) (value divisor) }
-    ensures { Ceiling value (value dividend) (value divisor) result }
+    requires { CanDivide T.range (T.value dividend) (T.value divisor) }
+    ensures { Ceiling T.value (T.value dividend) (T.value divisor) result }
 {
     let one = T::from_u8(1);
     if dividend.is_below(one) {

@@ -24,13 +24,13 @@ impl<F, G> Chain<F, G> {
 }
 
 impl<F: Source, G: Source> Source for Chain<F, G> {
-    ghost means = { λ s. chained (F.Source.means s.first) (G.Source.means s.second) };
+    ghost means = { λ s. chained (F.means s.first) (G.means s.second) };
 
-    ghost proper = { λ s. chained_proper (F.Source.means s.first) (G.Source.means s.second) (F.Source.proper s.first) (G.Source.proper s.second) };
+    ghost proper = { λ s. chained_proper (F.means s.first) (G.means s.second) (F.proper s.first) (G.proper s.second) };
 
-    ghost keeps = { λ s t. F.Source.keeps s.first t.first × G.Source.keeps s.second t.second };
+    ghost keeps = { λ s t. F.keeps s.first t.first × G.keeps s.second t.second };
 
-    ghost steady = { record { same = λ s. (F.Source.steady.same s.first, G.Source.steady.same s.second); on = λ s t u h k. (F.Source.steady.on s.first t.first u.first h.0 k.0, G.Source.steady.on s.second t.second u.second h.1 k.1) } };
+    ghost steady = { record { same = λ s. (F.steady.same s.first, G.steady.same s.second); on = λ s t u h k. (F.steady.on s.first t.first u.first h.0 k.0, G.steady.on s.second t.second u.second h.1 k.1) } };
 
     fn read(&mut self, buffer: &mut [u8]) -> Result<usize, Stop> {
         match self.first.read(buffer) {

@@ -10,7 +10,7 @@ impl<T: Number> Vec2<T> {
     /// Seeing this vector as a dimension or size (width and height), the area that this dimension
     /// contains (`width * height`), or `None` exactly where it does not fit the type.
     pub fn area(self) -> Option<T>
-        ensures { Answers value (Within range) (value self.0 *ℤ value self.1) result }
+        ensures { Answers T.value (Within T.range) (T.value self.0 *ℤ T.value self.1) result }
     {
         self.0.checked_mul(self.1)
     }
@@ -19,7 +19,7 @@ impl<T: Number> Vec2<T> {
     /// after another: `y * width + x`. Answers `None` exactly where the place does not lie in the
     /// image or the index does not fit the type.
     pub fn flat_index_for_size(self, resolution: Self) -> Option<T>
-        ensures { Answers value (IndexFits range (value self.0) (value self.1) (value resolution.0) (value resolution.1)) ((value self.1 *ℤ value resolution.0) +ℤ value self.0) result }
+        ensures { Answers T.value (IndexFits T.range (T.value self.0) (T.value self.1) (T.value resolution.0) (T.value resolution.1)) ((T.value self.1 *ℤ T.value resolution.0) +ℤ T.value self.0) result }
     {
         let Vec2(x, y) = self;
         let Vec2(width, height) = resolution;

@@ -11,18 +11,18 @@ use exr_read::read::read_byte;
 use exr_source::source::Source;
 
 impl<S: Source> Source for PeekRead<S> {
-    ghost means = { peek_means S.Source.means };
+    ghost means = { peek_means S.means };
 
-    ghost proper = { peek_proper S.Source.means S.Source.proper };
+    ghost proper = { peek_proper S.means S.proper };
 
-    ghost keeps = { PeekKept S.Source.means S.Source.keeps };
+    ghost keeps = { PeekKept S.means S.keeps };
 
-    ghost steady = { peek-steady S.Source.means S.Source.steady };
+    ghost steady = { peek-steady S.means S.steady };
 
     /// A kept byte is given alone: nothing is asked below.
     fn read(&mut self, buffer: &mut [u8]) -> Result<usize, Stop>
-        ensures gives { Requested (peek_means S.Source.means self.old) buffer.old result (peek_means S.Source.means self.new) buffer.new }
-        ensures kept { PeekKept S.Source.means S.Source.keeps self.old self.new }
+        ensures gives { Requested (peek_means S.means self.old) buffer.old result (peek_means S.means self.new) buffer.new }
+        ensures kept { PeekKept S.means S.keeps self.old self.new }
         ensures alone { Alone self.old buffer.old result self.new }
     {
         if buffer.len() == 0 {
@@ -54,10 +54,10 @@ impl<S: Source> PeekRead<S> {
     /// The byte that comes next, which is kept and still to come, or the stop.
     /// The meaning is unchanged.
     pub fn peek_u8(&mut self) -> Result<u8, Stop>
-        ensures answer { result ≡ next_of (peek_means S.Source.means self.old).bytes (peek_means S.Source.means self.old).stop }
+        ensures answer { result ≡ next_of (peek_means S.means self.old).bytes (peek_means S.means self.old).stop }
         ensures peeked { self.new.peeked ≡ result_ok result }
-        ensures same { peek_means S.Source.means self.new ≡ peek_means S.Source.means self.old }
-        ensures kept { S.Source.keeps self.old.inner self.new.inner }
+        ensures same { peek_means S.means self.new ≡ peek_means S.means self.old }
+        ensures kept { S.keeps self.old.inner self.new.inner }
     {
         if let Some(byte) = self.peeked {
             return Ok(byte);
@@ -71,9 +71,9 @@ impl<S: Source> PeekRead<S> {
     /// whether it does; another byte stays to come. Where none is to come,
     /// answers the stop.
     pub fn skip_if_eq(&mut self, value: u8) -> Result<bool, Stop>
-        ensures answer { result ≡ is_next (peek_means S.Source.means self.old).bytes (peek_means S.Source.means self.old).stop value }
-        ensures left { peek_means S.Source.means self.new ≡ source_of (sans_next (peek_means S.Source.means self.old).bytes value) (peek_means S.Source.means self.old).stop }
-        ensures kept { S.Source.keeps self.old.inner self.new.inner }
+        ensures answer { result ≡ is_next (peek_means S.means self.old).bytes (peek_means S.means self.old).stop value }
+        ensures left { peek_means S.means self.new ≡ source_of (sans_next (peek_means S.means self.old).bytes value) (peek_means S.means self.old).stop }
+        ensures kept { S.keeps self.old.inner self.new.inner }
     {
         let byte = self.peek_u8()?;
         if byte != value {

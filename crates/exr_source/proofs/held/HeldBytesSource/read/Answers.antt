@@ -12,11 +12,11 @@ returns-then-there-eq0 c = record {
 }
 
 -- what is left of bytes below 256 is below 256
-pub invariant-of-self : goal.invariant-of-self
-invariant-of-self c =
+pub invariant_of-self : goal.invariant_of-self
+invariant_of-self c =
     let bs = c.args.self.now.rest.now in
     let k = c.min-k.result in
-    (subst EachByte (sym (take_rest bs k)) (bytes_drop k bs c.args.self.now.below), tt)
+    record { below = subst EachByte (sym (take_rest bs k)) (bytes_drop k bs c.args.self.now.below) }
 
 pub returns : goal.returns
 returns c = record {
