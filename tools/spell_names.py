@@ -1,12 +1,12 @@
 #!/usr/bin/env python3
 """Brings the names of definitions, lemmas, fields and cases to today's spelling.
 
-usage: python3 tools/spell_names.py [ROOT]     (ROOT: the repository, or this script's own)
+usage: python3 tools/spell_names.py [ROOT [TABLE ..]]     (ROOT: the repository, or this script's own)
 
 Types and facts in upper camel case, all else in snake case, and a dash only
 between two names, as in length-low_first; a lemma that would have the name of
-a definition or a function gets _lem. tools/spelling.txt has each old name with
-its new one. Names are turned as whole words, all at once, in specs/, proofs/,
+a definition or a function gets _lem. spelling.txt and spelling-local.txt have each
+old name with its new one. Names are turned as whole words, all at once, in specs/, proofs/,
 src/ and must-fail/; not in texts between quotes; in comments, in docs/ and in
 README.md only between backticks. Run twice, it could take a new name for an
 old one (all_named stands on both sides), so it leaves a mark of nothing and is
@@ -17,13 +17,18 @@ import re
 import sys
 
 HERE = os.path.dirname(os.path.realpath(__file__))
-TABLE = dict(
-    line.split() for line in open(os.path.join(HERE, "spelling.txt"), encoding="utf-8")
-    if line.strip() and not line.startswith("#")
-)
+TABLES = ("spelling.txt", "spelling-local.txt")
 WORD = re.compile(r"[^\s(){}\[\].,;«»\"`]+")
 TICKED = re.compile(r"`[^`\n]*`")
 QUOTED = re.compile(r'"(?:[^"\\\n]|\\.)*"')
+
+
+def table(name):
+    with open(os.path.join(HERE, name), encoding="utf-8") as f:
+        return dict(line.split() for line in f if line.strip() and not line.startswith("#"))
+
+
+TABLE = {}
 
 
 def words(text):
@@ -74,6 +79,8 @@ def files(root):
 
 def main():
     root = sys.argv[1] if len(sys.argv) > 1 else os.path.dirname(HERE)
+    for name in sys.argv[2:] or TABLES:
+        TABLE.update(table(name))
     changed = 0
     for path in files(root):
         with open(path, encoding="utf-8") as f:

@@ -148,14 +148,14 @@ bad_made : (b : Box) → box_good b ≡ false → Err 11 ≡ make_box b
 bad_made b e = sym (ap (λ (t : Bool). cond {A = Result Box ℕ} t (Ok b) (Err 11)) e)
 
 pub moved_x_out : (b : Box) → (SFits w32 b.position.0 → ⊥) → Err 11 ≡ make_box b
-moved_x_out b no-fit =
+moved_x_out b no_fit =
     bad_made b (first_bad (axis_good b.position.0 b.size.0) (axis_good b.position.1 b.size.1)
-    (not_good (axis_good b.position.0 b.size.0) (λ e. no-fit (fit_low b.position.0 b.size.0 e))))
+    (not_good (axis_good b.position.0 b.size.0) (λ e. no_fit (fit_low b.position.0 b.size.0 e))))
 
 pub moved_y_out : (b : Box) → (SFits w32 b.position.1 → ⊥) → Err 11 ≡ make_box b
-moved_y_out b no-fit =
+moved_y_out b no_fit =
     bad_made b (either_bad (axis_good b.position.0 b.size.0) (axis_good b.position.1 b.size.1)
-    (not_good (axis_good b.position.1 b.size.1) (λ e. no-fit (fit_low b.position.1 b.size.1 e))))
+    (not_good (axis_good b.position.1 b.size.1) (λ e. no_fit (fit_low b.position.1 b.size.1 e))))
 
 pub moved_same : (b : Box) (o s : Vec2 ℤ) (n : Vec2 ℕ) → s.0 ≡ b.position.0 +ℤ o.0 → s.1 ≡ b.position.1 +ℤ o.1 → n.0 ≡ b.size.0 → n.1 ≡ b.size.1 →
     make_box (box_at s n) ≡ make_box (moved o b)

@@ -26,8 +26,8 @@ fn read_corners(bytes: &[u8]) -> Result<((i32, i32, i32, i32), &[u8]), Refusal>
 
 /// Gives four numbers to a sink.
 fn write_corners<W: Sink>(sink: &mut W, all: (i32, i32, i32, i32)) -> Result<(), Full>
-    ensures takes { GaveAll (means sink.old) (field_bytes corners (four_bits all)) result (means sink.new) }
-    ensures kept { keeps sink.old sink.new }
+    ensures takes { GaveAll (W.means sink.old) (field_bytes corners (four_bits all)) result (W.means sink.new) }
+    ensures kept { W.keeps sink.old sink.new }
 {
     let numbers = [all.0, all.1, all.2, all.3];
     write_slice_le(sink, &numbers)
@@ -54,8 +54,8 @@ impl IntegerBounds {
 
     /// Gives its least and its greatest corner to a sink.
     pub fn write<W: Sink>(&self, sink: &mut W) -> Result<(), Full>
-        ensures takes { GaveAll (means sink.old) (box_bytes (box_of self.now)) result (means sink.new) }
-        ensures kept { keeps sink.old sink.new }
+        ensures takes { GaveAll (W.means sink.old) (box_bytes (box_of self.now)) result (W.means sink.new) }
+        ensures kept { W.keeps sink.old sink.new }
     {
         write_corners(sink, self.corners())
     }

@@ -107,8 +107,8 @@ impl Compression {
 
     /// Gives its code to a sink.
     pub fn write<W: Sink>(self, sink: &mut W) -> Result<(), Full>
-        ensures takes { GaveAll (means sink.old) (field_bytes (fields_of compression) (compression_code (compression_of self) ∷ [])) result (means sink.new) }
-        ensures kept { keeps sink.old sink.new }
+        ensures takes { GaveAll (W.means sink.old) (field_bytes (fields_of compression) (compression_code (compression_of self) ∷ [])) result (W.means sink.new) }
+        ensures kept { W.keeps sink.old sink.new }
     {
         write_le(sink, self.code())
     }

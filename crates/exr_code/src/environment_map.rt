@@ -63,8 +63,8 @@ impl EnvironmentMap {
 
     /// Gives its code to a sink.
     pub fn write<W: Sink>(self, sink: &mut W) -> Result<(), Full>
-        ensures takes { GaveAll (means sink.old) (field_bytes (fields_of envmap) (envmap_code (envmap_of self) ∷ [])) result (means sink.new) }
-        ensures kept { keeps sink.old sink.new }
+        ensures takes { GaveAll (W.means sink.old) (field_bytes (fields_of envmap) (envmap_code (envmap_of self) ∷ [])) result (W.means sink.new) }
+        ensures kept { W.keeps sink.old sink.new }
     {
         write_le(sink, self.code())
     }

@@ -5,7 +5,7 @@ use Rattle.layout.specs.Numbers.{Bytes, range}
 use Rattle.layout.specs.Floats.{one_nan, single, double}
 use Rattle.layout.specs.Fields.{f32, f64, fields, field_bytes, singles, Held}
 use Rattle.layout.specs.Kinds.{fields_of}
-use Rattle.layout.specs.Kinds.{double as double-kind}
+use Rattle.layout.specs.Kinds.{double as double_kind}
 use Rattle.layout.proofs.Fielded.{fields_back, fields_written, words_are}
 use Rattle.exr_float.specs.declared.single.F32Bits.{F32Bits}
 use Rattle.exr_float.specs.declared.double.F64Bits.{F64Bits}

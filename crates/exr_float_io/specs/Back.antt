@@ -5,7 +5,7 @@ use Rattle.layout.specs.Numbers.{Bytes}
 use Rattle.layout.specs.Floats.{double}
 use Rattle.layout.specs.Fields.{Field, fields, field_bytes, singles}
 use Rattle.layout.specs.Kinds.{fields_of, float, v2f, v3f}
-use Rattle.layout.specs.Kinds.{double as double-kind}
+use Rattle.layout.specs.Kinds.{double as double_kind}
 use Rattle.exr_vec2.specs.declared.Vec2.{Vec2}
 use Rattle.exr_float.specs.declared.single.F32Bits.{F32Bits}
 use Rattle.exr_float.specs.declared.double.F64Bits.{F64Bits}
@@ -25,7 +25,7 @@ pub record ReadBack (fs : List Field) (bs : List F32Bits) : Type 0 where
   pub same : map (from_bits binary32) (written bs) ≡ map float_of bs
 
 pub record DoubleBack (b : F64Bits) : Type 0 where
-  pub back : (rest : Bytes) → fields (fields_of double-kind) (field_bytes (fields_of double-kind) (double b.bits ∷ []) ++ rest) ≡ Ok (double b.bits ∷ [], rest)
+  pub back : (rest : Bytes) → fields (fields_of double_kind) (field_bytes (fields_of double_kind) (double b.bits ∷ []) ++ rest) ≡ Ok (double b.bits ∷ [], rest)
   pub same : from_bits binary64 (double b.bits) ≡ double_of b
 
 pub record FloatsReadBack : Type 0 where

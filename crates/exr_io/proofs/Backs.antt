@@ -13,11 +13,11 @@ module _ {X : Type 0} (w : ℕ) (fits : X → Type 0) (bits : X → ℕ) (value 
   long : (x : X) → length (spelled x) ≡ w
   long x = length-low_first w (bits x)
 
-  pub reads-back : RunsReadBack w fits bits value
-  reads-back [] [] f n = refl
-  reads-back [] (y ∷ slice) f n = absurd (omega (arith, n))
-  reads-back (x ∷ xs) [] f n = absurd (omega (arith, n))
-  reads-back (x ∷ xs) (y ∷ slice) f n =
+  pub reads_back : RunsReadBack w fits bits value
+  reads_back [] [] f n = refl
+  reads_back [] (y ∷ slice) f n = absurd (omega (arith, n))
+  reads_back (x ∷ xs) [] f n = absurd (omega (arith, n))
+  reads_back (x ∷ xs) (y ∷ slice) f n =
       let all = spelled x ++ flat_map spelled xs in
       let l : length all ≡ w + length (flat_map spelled xs) = length-append (spelled x) (flat_map spelled xs) ∙ ap (λ k. k + length (flat_map spelled xs)) (long x) in
       let enough : w ≤ length all = omega (arith, l) in
@@ -27,4 +27,4 @@ module _ {X : Type 0} (w : ℕ) (fits : X → Type 0) (bits : X → ℕ) (value 
       ∙ ap (λ v. value v ∷ read_into w value slice (drop w all)) (whole-low_first w (bits x) (below x f.0))
       ∙ ap (λ v. v ∷ read_into w value slice (drop w all)) (back x f.0)
       ∙ ap (λ b. x ∷ read_into w value slice b) (drop_at (spelled x) (flat_map spelled xs) w (long x))
-      ∙ ap (λ t. x ∷ t) (reads-back xs slice f.1 m)
+      ∙ ap (λ t. x ∷ t) (reads_back xs slice f.1 m)

@@ -27,30 +27,30 @@ module _ {X : Type 0} (w : ℕ) (value : ℕ → X) where
     pub laid_in : read_into w value slice₀ m.bytes ≡ take i slice ++ read_into w value (drop i slice) (drop (i * w) m.bytes)
 
   -- the next place, where a number comes for it and where none does
-  into-came : (slice : List X) (i : ℕ) (d : X) (bs : Bytes) → i < length slice → w ≤ length bs → read_into w value (drop i slice) bs ≡ value (whole (take w bs)) ∷ read_into w value (drop (i + 1) slice) (drop w bs)
-  into-came slice i d bs h k = ap (λ p. read_into w value p bs) (drop_more slice i d h) ∙ ap (λ b. cond b (value (whole (take w bs)) ∷ read_into w value (drop (i + 1) slice) (drop w bs)) (get_or slice i d ∷ drop (i + 1) slice)) (le-leb w (length bs) k)
+  into_came : (slice : List X) (i : ℕ) (d : X) (bs : Bytes) → i < length slice → w ≤ length bs → read_into w value (drop i slice) bs ≡ value (whole (take w bs)) ∷ read_into w value (drop (i + 1) slice) (drop w bs)
+  into_came slice i d bs h k = ap (λ p. read_into w value p bs) (drop_more slice i d h) ∙ ap (λ b. cond b (value (whole (take w bs)) ∷ read_into w value (drop (i + 1) slice) (drop w bs)) (get_or slice i d ∷ drop (i + 1) slice)) (le-leb w (length bs) k)
 
-  into-failed : (slice : List X) (i : ℕ) (d : X) (bs : Bytes) → i < length slice → length bs < w → read_into w value (drop i slice) bs ≡ drop i slice
-  into-failed slice i d bs h k = ap (λ p. read_into w value p bs) (drop_more slice i d h) ∙ ap (λ b. cond b (value (whole (take w bs)) ∷ read_into w value (drop (i + 1) slice) (drop w bs)) (get_or slice i d ∷ drop (i + 1) slice)) (lt-leb w (length bs) k) ∙ sym (drop_more slice i d h)
+  into_failed : (slice : List X) (i : ℕ) (d : X) (bs : Bytes) → i < length slice → length bs < w → read_into w value (drop i slice) bs ≡ drop i slice
+  into_failed slice i d bs h k = ap (λ p. read_into w value p bs) (drop_more slice i d h) ∙ ap (λ b. cond b (value (whole (take w bs)) ∷ read_into w value (drop (i + 1) slice) (drop w bs)) (get_or slice i d ∷ drop (i + 1) slice)) (lt-leb w (length bs) k) ∙ sym (drop_more slice i d h)
 
-  next-product : (i : ℕ) → (i + 1) * w ≡ i * w + w
-  next-product i = add-mul i 1 w ∙ ap (λ n. i * w + n) (one-mul w)
+  next_product : (i : ℕ) → (i + 1) * w ≡ i * w + w
+  next_product i = add-mul i 1 w ∙ ap (λ n. i * w + n) (one-mul w)
 
   module _ (m : SourceMeaning) (slice₀ : List X) (i : ℕ) (m' : SourceMeaning) (slice : List X) (s : Reading m slice₀ i m' slice) (h : i < length slice) where
     abbrev rest : Bytes
     rest = drop (i * w) m.bytes
 
-    rest-is : m'.bytes ≡ rest
-    rest-is = ap (λ x. x.bytes) s.left
+    rest_is : m'.bytes ≡ rest
+    rest_is = ap (λ x. x.bytes) s.left
 
-    pub reading-more : (v : X) (m'' : SourceMeaning) → ReadLe w value m' (Ok v) m'' → Reading m slice₀ (i + 1) m'' (set slice i v)
-    reading-more v m'' r =
+    pub reading_more : (v : X) (m'' : SourceMeaning) → ReadLe w value m' (Ok v) m'' → Reading m slice₀ (i + 1) m'' (set slice i v)
+    reading_more v m'' r =
         let p = came (leb w (length m'.bytes)) v (value (whole (take w m'.bytes))) m'.stop r.answer in
         let enough : w ≤ length m'.bytes = leb-true _ _ p.0 in
-        let l : length m'.bytes ≡ length m.bytes - i * w = ap length rest-is ∙ length-drop (i * w) m.bytes in
-        let k : w ≤ length rest = omega (arith, ap length rest-is) in
-        let n : (i + 1) * w ≡ i * w + w = next-product i in
-        let v-is : v ≡ value (whole (take w rest)) = p.1 ∙ ap (λ b. value (whole (take w b))) rest-is in
+        let l : length m'.bytes ≡ length m.bytes - i * w = ap length rest_is ∙ length-drop (i * w) m.bytes in
+        let k : w ≤ length rest = omega (arith, ap length rest_is) in
+        let n : (i + 1) * w ≡ i * w + w = next_product i in
+        let v_is : v ≡ value (whole (take w rest)) = p.1 ∙ ap (λ b. value (whole (take w b))) rest_is in
         let all : come w m' ≡ w = omega arith in
         let onward : drop w rest ≡ drop ((i + 1) * w) m.bytes = drop-drop w (i * w) m.bytes ∙ ap (λ x. drop x m.bytes) (sym n) in
         let same : drop (i + 1) (set slice i v) ≡ drop (i + 1) slice = drop-set-lt (i + 1) slice i v (omega arith) in
@@ -61,38 +61,38 @@ module _ {X : Type 0} (w : ℕ) (value : ℕ → X) where
           left = r.left ∙ ap (λ x. after x m') all ∙ ap (after w) s.left ∙ ap (λ b. source_of b m.stop) onward;
           laid_in =
               s.laid_in
-              ∙ ap (λ x. take i slice ++ x) (into-came slice i v rest h k ∙ ap (λ x. x ∷ read_into w value (drop (i + 1) slice) (drop w rest)) (sym v-is))
+              ∙ ap (λ x. take i slice ++ x) (into_came slice i v rest h k ∙ ap (λ x. x ∷ read_into w value (drop (i + 1) slice) (drop w rest)) (sym v_is))
               ∙ sym (append_assoc (take i slice) (v ∷ []) (read_into w value (drop (i + 1) slice) (drop w rest)))
               ∙ ap (λ x. x ++ read_into w value (drop (i + 1) slice) (drop w rest)) (sym (take_more_set slice i v h))
               ∙ ap (λ x. take (i + 1) (set slice i v) ++ read_into w value x (drop w rest)) (sym same)
               ∙ ap (λ b. take (i + 1) (set slice i v) ++ read_into w value (drop (i + 1) (set slice i v)) b) onward;
         }
 
-    pub reading-stopped : (d : X) (e : Stop) (m'' : SourceMeaning) (r : Result (Unit {0}) Stop) → ReadLe w value m' (Err e) m'' → r ≡ Err e → ReadRun w value m slice₀ r m'' slice
-    reading-stopped d e m'' r q re =
+    pub reading_stopped : (d : X) (e : Stop) (m'' : SourceMeaning) (r : Result (Unit {0}) Stop) → ReadLe w value m' (Err e) m'' → r ≡ Err e → ReadRun w value m slice₀ r m'' slice
+    reading_stopped d e m'' r q re =
         let p = failed (leb w (length m'.bytes)) e (value (whole (take w m'.bytes))) m'.stop q.answer in
         let less : length m'.bytes < w = leb-false _ _ p.0 in
-        let l : length m'.bytes ≡ length m.bytes - i * w = ap length rest-is ∙ length-drop (i * w) m.bytes in
-        let k : length rest < w = omega (arith, ap length rest-is) in
-        let n : (i + 1) * w ≡ i * w + w = next-product i in
+        let l : length m'.bytes ≡ length m.bytes - i * w = ap length rest_is ∙ length-drop (i * w) m.bytes in
+        let k : length rest < w = omega (arith, ap length rest_is) in
+        let n : (i + 1) * w ≡ i * w + w = next_product i in
         let far : (i + 1) * w ≤ length slice₀ * w = mul-le-mul_right w (omega (arith, s.long)) in
         let short : length m.bytes < length slice₀ * w = omega (arith, s.there) in
-        let got-all : come w m' ≡ length m'.bytes = omega arith in
-        let want-all : come (length slice₀ * w) m ≡ length m.bytes = omega arith in
+        let got_all : come w m' ≡ length m'.bytes = omega arith in
+        let want_all : come (length slice₀ * w) m ≡ length m.bytes = omega arith in
         let sum : i * w + length m'.bytes ≡ length m.bytes = omega (arith, s.there) in
         record {
           answer = re ∙ ap Err (p.1 ∙ ap (λ x. stop_at x.stop) s.left) ∙ sym (ap (λ b. one_or b tt m.stop) (lt-leb _ _ short));
-          laid_in = sym (s.laid_in ∙ ap (λ x. take i slice ++ x) (into-failed slice i d rest h k) ∙ take-append-drop i slice);
+          laid_in = sym (s.laid_in ∙ ap (λ x. take i slice ++ x) (into_failed slice i d rest h k) ∙ take-append-drop i slice);
           left =
               q.left
-              ∙ ap (λ x. after x m') got-all
+              ∙ ap (λ x. after x m') got_all
               ∙ ap (after (length m'.bytes)) s.left
               ∙ ap (λ b. source_of b m.stop) (drop-drop (length m'.bytes) (i * w) m.bytes)
-              ∙ ap (λ x. after x m) (sum ∙ sym want-all);
+              ∙ ap (λ x. after x m) (sum ∙ sym want_all);
         }
 
-  pub reading-done : (m : SourceMeaning) (slice₀ : List X) (i : ℕ) (m' : SourceMeaning) (slice : List X) → Reading m slice₀ i m' slice → length slice ≤ i → ReadRun w value m slice₀ (Ok tt) m' slice
-  reading-done m slice₀ i m' slice s h =
+  pub reading_done : (m : SourceMeaning) (slice₀ : List X) (i : ℕ) (m' : SourceMeaning) (slice : List X) → Reading m slice₀ i m' slice → length slice ≤ i → ReadRun w value m slice₀ (Ok tt) m' slice
+  reading_done m slice₀ i m' slice s h =
       let n : i ≡ length slice₀ = omega (arith, s.within, s.long) in
       let product : i * w ≡ length slice₀ * w = ap (λ x. x * w) n in
       let enough : length slice₀ * w ≤ length m.bytes = omega (arith, s.there) in

@@ -37,41 +37,41 @@ module _ (w size : ℕ) (same : size ≡ w) (most : size ≤ 8) (m : SourceMeani
   lent_is : lent_front size ≡ zeros w
   lent_is = let e : size - 0 ≡ w = omega (arith, same) in ap (λ n. take n (zeros 8)) e ∙ take-zeros w 8 few
 
-  lent-long : length (lent_front size) ≡ w
-  lent-long = ap length lent_is ∙ length-zeros w
+  lent_long : length (lent_front size) ≡ w
+  lent_long = ap length lent_is ∙ length-zeros w
 
   pub enough : w ≤ length m.bytes
-  enough = subst (λ n. n ≤ length m.bytes) lent-long (leb-true (length (lent_front size)) (length m.bytes) (ok_all (leb (length (lent_front size)) (length m.bytes)) x m.stop (length m.bytes) f.answer))
+  enough = subst (λ n. n ≤ length m.bytes) lent_long (leb-true (length (lent_front size)) (length m.bytes) (ok_all (leb (length (lent_front size)) (length m.bytes)) x m.stop (length m.bytes) f.answer))
 
   all : come (length (lent_front size)) m ≡ w
-  all = omega (arith, lent-long, enough)
+  all = omega (arith, lent_long, enough)
 
-  part-is : part ≡ take w m.bytes
-  part-is =
+  part_is : part ≡ take w m.bytes
+  part_is =
       f.laid_in ∙ ap (λ n. laid n m.bytes (lent_front size)) all
-      ∙ ap (λ t. take w m.bytes ++ t) (drop_all w (lent_front size) (omega (arith, lent-long)))
+      ∙ ap (λ t. take w m.bytes ++ t) (drop_all w (lent_front size) (omega (arith, lent_long)))
       ∙ append-nil (take w m.bytes)
 
   behind : post_of 0 (size - 0) (zeros 8) ≡ zeros (8 - w)
   behind = let e : size - 0 ≡ w = omega (arith, same) in ap (λ n. drop n (zeros 8)) e ∙ drop-zeros w 8 few
 
-  array-is : array ≡ take w m.bytes ++ zeros (8 - w)
-  array-is = ap (λ t. t ++ post_of 0 (size - 0) (zeros 8)) part-is ∙ ap (λ t. take w m.bytes ++ t) behind
+  array_is : array ≡ take w m.bytes ++ zeros (8 - w)
+  array_is = ap (λ t. t ++ post_of 0 (size - 0) (zeros 8)) part_is ∙ ap (λ t. take w m.bytes ++ t) behind
 
   array_long : length array ≡ 8
   array_long =
-      ap length array-is ∙ length-append (take w m.bytes) (zeros (8 - w))
+      ap length array_is ∙ length-append (take w m.bytes) (zeros (8 - w))
       ∙ omega (arith, length-take-le w m.bytes enough, length-zeros (8 - w), few)
 
-  word-is : EachByte m.bytes → eight_whole array % range w ≡ whole (take w m.bytes)
-  word-is h =
-      ap (λ n. n % range w) (whole_eight array array_long ∙ ap whole array-is ∙ whole_before_zeros (take w m.bytes) (8 - w))
+  word_is : EachByte m.bytes → eight_whole array % range w ≡ whole (take w m.bytes)
+  word_is h =
+      ap (λ n. n % range w) (whole_eight array array_long ∙ ap whole array_is ∙ whole_before_zeros (take w m.bytes) (8 - w))
       ∙ whole_small w m.bytes h enough
 
-  pub taken-number : {X : Type 0} (value : ℕ → X) (v : X) (n : ℕ) → EachByte m.bytes → n ≡ eight_whole array → v ≡ value (n % range w) → ReadLe w value m (Ok v) m'
-  taken-number value v n h e is = record {
+  pub taken_number : {X : Type 0} (value : ℕ → X) (v : X) (n : ℕ) → EachByte m.bytes → n ≡ eight_whole array → v ≡ value (n % range w) → ReadLe w value m (Ok v) m'
+  taken_number value v n h e is = record {
     answer =
-        ap Ok (is ∙ ap value (ap (λ k. k % range w) e ∙ word-is h))
+        ap Ok (is ∙ ap value (ap (λ k. k % range w) e ∙ word_is h))
         ∙ sym (ap (λ b. one_or b (value (whole (take w m.bytes))) m.stop) (le-leb w (length m.bytes) enough));
     left = f.left ∙ ap (λ n. after n m) (all ∙ (let k : w ≡ come w m = omega (arith, enough) in k));
   }

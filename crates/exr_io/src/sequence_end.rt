@@ -18,8 +18,8 @@ pub fn byte_size() -> usize
 
 /// Gives a sink the byte 00, which ends a sequence.
 pub fn write<W: Sink>(sink: &mut W) -> Result<(), Full>
-    ensures takes { GaveAll (means sink.old) (0 ∷ []) result (means sink.new) }
-    ensures kept { keeps sink.old sink.new }
+    ensures takes { GaveAll (W.means sink.old) (0 ∷ []) result (W.means sink.new) }
+    ensures kept { W.keeps sink.old sink.new }
 {
     write_le(sink, 0u8)
 }

@@ -42,13 +42,13 @@ pub record PeekKept {S : Type 0} (below : S → SourceMeaning) (keeps : S → S 
   pub spent : Spent below s t
 
 module _ {S : Type 0} (below : S → SourceMeaning) where
-  spent-on : (s t u : PeekRead S) → Spent below s t → Spent below t u → Spent below s u
-  spent-on s t u p (inl none) = inl none
-  spent-on s t u (inl none) (inr q) = inl (q.0 ∙ none)
-  spent-on s t u (inr p) (inr q) = inr (q.0 ∙ p.0, q.1 ∙ p.1)
+  spent_on : (s t u : PeekRead S) → Spent below s t → Spent below t u → Spent below s u
+  spent_on s t u p (inl none) = inl none
+  spent_on s t u (inl none) (inr q) = inl (q.0 ∙ none)
+  spent_on s t u (inr p) (inr q) = inr (q.0 ∙ p.0, q.1 ∙ p.1)
 
-  pub peek-steady : {keeps : S → S → Type 0} → Steady keeps → Steady (PeekKept below keeps)
-  peek-steady h = record {
+  pub peek_steady : {keeps : S → S → Type 0} → Steady keeps → Steady (PeekKept below keeps)
+  peek_steady h = record {
     same = λ s. record { inner = h.same s.inner; spent = inr (refl, refl) };
-    on = λ s t u p q. record { inner = h.on s.inner t.inner u.inner p.inner q.inner; spent = spent-on s t u p.spent q.spent };
+    on = λ s t u p q. record { inner = h.on s.inner t.inner u.inner p.inner q.inner; spent = spent_on s t u p.spent q.spent };
   }

@@ -46,8 +46,8 @@ fn read_pixels(bytes: &[u8], count: u128) -> Result<(&[u8], &[u8]), Refusal>
 
 /// Gives two sides and pixels to a sink.
 fn write_parts<W: Sink>(sink: &mut W, width: u32, height: u32, pixels: &[u8]) -> Result<(), Full>
-    ensures takes { GaveAll (means sink.old) (preview_bytes width height pixels.now) result (means sink.new) }
-    ensures kept { keeps sink.old sink.new }
+    ensures takes { GaveAll (W.means sink.old) (preview_bytes width height pixels.now) result (W.means sink.new) }
+    ensures kept { W.keeps sink.old sink.new }
 {
     let sides = [width, height];
     write_slice_le(sink, &sides)?;
@@ -93,8 +93,8 @@ impl<'a> Preview<'a> {
     /// Gives its sides and its pixels to a sink. What `validate` refuses gets 12
     /// before a byte is given; a sink that takes no more gets 20.
     pub fn write<W: Sink>(&self, sink: &mut W) -> Result<(), Refusal>
-        ensures takes { Wrote (preview_ask self.now) (means sink.old) (preview_bytes self.now.size.0 self.now.size.1 self.now.pixel_data.now) result (means sink.new) }
-        ensures kept { keeps sink.old sink.new }
+        ensures takes { Wrote (preview_ask self.now) (W.means sink.old) (preview_bytes self.now.size.0 self.now.size.1 self.now.pixel_data.now) result (W.means sink.new) }
+        ensures kept { W.keeps sink.old sink.new }
     {
         self.validate()?;
         let width = self.size.0;

@@ -44,26 +44,26 @@ module _ (m : SourceMeaning) (buffer : Bytes) (f : ℕ) (m' : SourceMeaning) (bu
   left_is : m'.bytes ≡ drop f m.bytes
   left_is = ap (λ x. x.bytes) i.left
 
-  left-length : length m'.bytes ≡ length m.bytes - f
-  left-length = ap length left_is ∙ length-drop f m.bytes
+  left_length : length m'.bytes ≡ length m.bytes - f
+  left_length = ap length left_is ∙ length-drop f m.bytes
 
-  front-is : take f buffer' ≡ take f m.bytes
-  front-is = ap (take f) i.laid_in ∙ front_laid f m.bytes buffer i.there
+  front_is : take f buffer' ≡ take f m.bytes
+  front_is = ap (take f) i.laid_in ∙ front_laid f m.bytes buffer i.there
 
-  pub filling-more : (k : ℕ) (m'' : SourceMeaning) (part : Bytes) → Given m' (lent f buffer') k m'' part → Filling m buffer (f + k) m'' (put_mid f (length buffer' - f) buffer' part)
-  filling-more k m'' part g =
-      let part-is : part ≡ laid k (drop f m.bytes) (drop f buffer) = g.laid_in ∙ ap (λ x. laid k x (lent f buffer')) left_is ∙ ap (laid k (drop f m.bytes)) lent_is in
+  pub filling_more : (k : ℕ) (m'' : SourceMeaning) (part : Bytes) → Given m' (lent f buffer') k m'' part → Filling m buffer (f + k) m'' (put_mid f (length buffer' - f) buffer' part)
+  filling_more k m'' part g =
+      let part_is : part ≡ laid k (drop f m.bytes) (drop f buffer) = g.laid_in ∙ ap (λ x. laid k x (lent f buffer')) left_is ∙ ap (laid k (drop f m.bytes)) lent_is in
       record {
         asked = omega (arith, i.asked, g.asked, lent_length);
-        there = omega (arith, i.there, g.there, left-length);
-        laid_in = put_rest f buffer' part ∙ ap (λ x. x ++ part) front-is ∙ ap (λ x. take f m.bytes ++ x) part-is ∙ laid_more f k m.bytes buffer;
+        there = omega (arith, i.there, g.there, left_length);
+        laid_in = put_rest f buffer' part ∙ ap (λ x. x ++ part) front_is ∙ ap (λ x. take f m.bytes ++ x) part_is ∙ laid_more f k m.bytes buffer;
         left = g.left ∙ ap (after k) i.left ∙ ap (λ x. source_of x m.stop) (drop-drop k f m.bytes);
       }
 
-  pub filling-stopped : (e : Stop) (m'' : SourceMeaning) (part : Bytes) → Stopped m' (lent f buffer') e m'' part → Filled m buffer (Err (record { stop = e; got = f })) m'' (put_mid f (length buffer' - f) buffer' part)
-  filling-stopped e m'' part s =
+  pub filling_stopped : (e : Stop) (m'' : SourceMeaning) (part : Bytes) → Stopped m' (lent f buffer') e m'' part → Filled m buffer (Err (record { stop = e; got = f })) m'' (put_mid f (length buffer' - f) buffer' part)
+  filling_stopped e m'' part s =
       let none : length m'.bytes ≡ 0 = ap length s.none in
-      let all : f ≡ length m.bytes = omega (arith, i.there, left-length, none) in
+      let all : f ≡ length m.bytes = omega (arith, i.there, left_length, none) in
       let less : length m.bytes < length buffer = omega (arith, s.asked, lent_length, all) in
       let so_far : come (length buffer) m ≡ f = omega (arith, all, less) in
       let why : e ≡ stop_at m.stop = s.why ∙ ap (λ x. stop_at x.stop) i.left in
@@ -74,8 +74,8 @@ module _ (m : SourceMeaning) (buffer : Bytes) (f : ℕ) (m' : SourceMeaning) (bu
         left = s.left ∙ i.left ∙ ap (λ n. after n m) (sym so_far);
       }
 
-  pub filling-done : length buffer ≤ f → Filled m buffer (Ok tt) m' buffer'
-  filling-done h =
+  pub filling_done : length buffer ≤ f → Filled m buffer (Ok tt) m' buffer'
+  filling_done h =
       let n : f ≡ length buffer = omega (arith, i.asked, h) in
       let enough : length buffer ≤ length m.bytes = omega (arith, i.there, n) in
       let so_far : come (length buffer) m ≡ f = omega (arith, n, enough) in

@@ -29,8 +29,8 @@ impl From<Short> for Fault {
 /// unfilled. Where the source stops first, answers the stop and how many
 /// bytes came: these stand at the buffer's start, and the rest of it stays.
 pub fn read_exact<S: Source>(source: &mut S, buffer: &mut [u8]) -> Result<(), Short>
-    ensures fills { Filled (means source.old) buffer.old result (means source.new) buffer.new }
-    ensures kept { keeps source.old source.new }
+    ensures fills { Filled (S.means source.old) buffer.old result (S.means source.new) buffer.new }
+    ensures kept { S.keeps source.old source.new }
 {
     let mut filled = 0;
     while filled < buffer.len() {
@@ -48,9 +48,9 @@ pub fn read_exact<S: Source>(source: &mut S, buffer: &mut [u8]) -> Result<(), Sh
 
 /// The next byte, which is then no longer to come, or the stop.
 pub fn read_byte<S: Source>(source: &mut S) -> Result<u8, Stop>
-    ensures answer { result ≡ next_of (means source.old).bytes (means source.old).stop }
-    ensures left { means source.new ≡ after 1 (means source.old) }
-    ensures kept { keeps source.old source.new }
+    ensures answer { result ≡ next_of (S.means source.old).bytes (S.means source.old).stop }
+    ensures left { S.means source.new ≡ after 1 (S.means source.old) }
+    ensures kept { S.keeps source.old source.new }
 {
     let mut one = [0u8; 1];
     match read_exact(source, &mut one) {

@@ -15,29 +15,29 @@ pub record Giving (m : SinkMeaning) (bs : Bytes) (f : ℕ) (m' : SinkMeaning) : 
   pub after : m' ≡ with f bs m
 
 module _ (m : SinkMeaning) (bs : Bytes) (f : ℕ) (m' : SinkMeaning) (i : Giving m bs f m') where
-  rest-is : lent f bs ≡ drop f bs
-  rest-is = take_rest bs f
+  rest_is : lent f bs ≡ drop f bs
+  rest_is = take_rest bs f
 
-  rest-length : length (lent f bs) ≡ length bs - f
-  rest-length = ap length rest-is ∙ length-drop f bs
+  rest_length : length (lent f bs) ≡ length bs - f
+  rest_length = ap length rest_is ∙ length-drop f bs
 
-  room-is : m'.room ≡ m.room - f
-  room-is = ap (λ x. x.room) i.after
+  room_is : m'.room ≡ m.room - f
+  room_is = ap (λ x. x.room) i.after
 
-  pub giving-more : (k : ℕ) (m'' : SinkMeaning) → Took m' (lent f bs) k m'' → Giving m bs (f + k) m''
-  giving-more k m'' t =
-      let joined : (m.taken ++ take f bs) ++ take k (lent f bs) ≡ m.taken ++ take (f + k) bs = rw (rest-is, take_add f k bs, append_assoc) in
+  pub giving_more : (k : ℕ) (m'' : SinkMeaning) → Took m' (lent f bs) k m'' → Giving m bs (f + k) m''
+  giving_more k m'' t =
+      let joined : (m.taken ++ take f bs) ++ take k (lent f bs) ≡ m.taken ++ take (f + k) bs = rw (rest_is, take_add f k bs, append_assoc) in
       let left : m.room - f - k ≡ m.room - (f + k) = omega arith in
       record {
-        given = omega (arith, i.given, t.given, rest-length);
-        room = omega (arith, i.room, t.room, room-is);
+        given = omega (arith, i.given, t.given, rest_length);
+        room = omega (arith, i.room, t.room, room_is);
         after = t.after ∙ ap (with k (lent f bs)) i.after ∙ ap (λ x. sink_of x (m.room - f - k) m.stop) joined ∙ ap (λ n. sink_of (m.taken ++ take (f + k) bs) n m.stop) left;
       }
 
-  pub giving-refused : (e : Full) (m'' : SinkMeaning) (r : Result (Unit {0}) Full) → Refused m' (lent f bs) e m'' → r ≡ Err e → GaveAll m bs r m''
-  giving-refused e m'' r s re =
-      let all : f ≡ m.room = omega (arith, i.room, s.none, room-is) in
-      let short : m.room < length bs = omega (arith, s.given, rest-length, all) in
+  pub giving_refused : (e : Full) (m'' : SinkMeaning) (r : Result (Unit {0}) Full) → Refused m' (lent f bs) e m'' → r ≡ Err e → GaveAll m bs r m''
+  giving_refused e m'' r s re =
+      let all : f ≡ m.room = omega (arith, i.room, s.none, room_is) in
+      let short : m.room < length bs = omega (arith, s.given, rest_length, all) in
       let so_far : min (length bs) m.room ≡ f = omega (arith, all, short) in
       let why : e ≡ full m.stop = s.why ∙ ap (λ x. full x.stop) i.after in
       record {

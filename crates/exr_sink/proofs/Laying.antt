@@ -7,33 +7,33 @@ use Rattle.layout.specs.Numbers.{Bytes}
 use Rattle.layout.specs.Streams.{SinkMeaning, sink_of, with}
 
 module _ {X : Type 0} (at k : ℕ) (buffer part : List X) (within : at + k ≤ length buffer) (fits : length part ≡ k) where
-  pub put-length : length (put_mid at ((at + k) - at) buffer part) ≡ length buffer
-  put-length = simp (length-append, length-take, length-drop) (omega arith)
+  pub put_length : length (put_mid at ((at + k) - at) buffer part) ≡ length buffer
+  put_length = simp (length-append, length-take, length-drop) (omega arith)
 
   pub put_front : take (at + k) (put_mid at ((at + k) - at) buffer part) ≡ take at buffer ++ part
   put_front = take-put_mid at ((at + k) - at) buffer part (at + k) (omega arith) (omega arith)
 
-  pub put-behind : drop (at + k) (put_mid at ((at + k) - at) buffer part) ≡ drop (at + k) buffer
-  put-behind = drop-put_mid at ((at + k) - at) buffer part (at + k) (omega arith) (omega arith) (omega arith)
+  pub put_behind : drop (at + k) (put_mid at ((at + k) - at) buffer part) ≡ drop (at + k) buffer
+  put_behind = drop-put_mid at ((at + k) - at) buffer part (at + k) (omega arith) (omega arith) (omega arith)
 
 -- the first k of some bytes, as `&bytes[0..k]` reads them, written at a place
 module _ (at k : ℕ) (buffer bs part : Bytes) (within : at + k ≤ length buffer) (given : k ≤ length bs) (e : part ≡ take (k - 0) bs) where
   abbrev pub written : Bytes
   written = put_mid at ((at + k) - at) buffer part
 
-  part-is : part ≡ take k bs
-  part-is = let z : k - 0 ≡ k = omega arith in e ∙ ap (λ n. take n bs) z
+  part_is : part ≡ take k bs
+  part_is = let z : k - 0 ≡ k = omega arith in e ∙ ap (λ n. take n bs) z
 
-  part-fits : length part ≡ k
-  part-fits = ap length part-is ∙ length-take-le k bs given
+  part_fits : length part ≡ k
+  part_fits = ap length part_is ∙ length-take-le k bs given
 
-  pub written-length : length written ≡ length buffer
-  written-length = put-length at k buffer part within part-fits
+  pub written_length : length written ≡ length buffer
+  written_length = put_length at k buffer part within part_fits
 
   pub written_behind : drop (at + k) written ≡ drop (at + k) buffer
-  written_behind = put-behind at k buffer part within part-fits
+  written_behind = put_behind at k buffer part within part_fits
 
-  pub written-meaning : (n n' s : ℕ) → n' ≡ n → sink_of (take (at + k) written) (n' - (at + k)) s ≡ with k bs (sink_of (take at buffer) (n - at) s)
-  written-meaning n n' s h =
+  pub written_meaning : (n n' s : ℕ) → n' ≡ n → sink_of (take (at + k) written) (n' - (at + k)) s ≡ with k bs (sink_of (take at buffer) (n - at) s)
+  written_meaning n n' s h =
       let rest : n' - (at + k) ≡ n - at - k = omega arith in
-      ap (λ x. sink_of x (n' - (at + k)) s) (put_front at k buffer part within part-fits ∙ ap (λ x. take at buffer ++ x) part-is) ∙ ap (λ r. sink_of (take at buffer ++ take k bs) r s) rest
+      ap (λ x. sink_of x (n' - (at + k)) s) (put_front at k buffer part within part_fits ∙ ap (λ x. take at buffer ++ x) part_is) ∙ ap (λ r. sink_of (take at buffer ++ take k bs) r s) rest

@@ -79,18 +79,18 @@ gave_short m xs bs e m' g =
     }
 
 module _ {X : Type 0} (f : X → Bytes) where
-  pub joined-append : (xs ys : List X) → flat_map f (xs ++ ys) ≡ flat_map f xs ++ flat_map f ys
-  joined-append [] ys = refl
-  joined-append (x ∷ xs) ys = ap (λ l. f x ++ l) (joined-append xs ys) ∙ sym (append_assoc (f x) (flat_map f xs) (flat_map f ys))
+  pub joined_append : (xs ys : List X) → flat_map f (xs ++ ys) ≡ flat_map f xs ++ flat_map f ys
+  joined_append [] ys = refl
+  joined_append (x ∷ xs) ys = ap (λ l. f x ++ l) (joined_append xs ys) ∙ sym (append_assoc (f x) (flat_map f xs) (flat_map f ys))
 
-  pub joined-next : (xs : List X) (i : ℕ) (x : X) → i < length xs → x ≡ get_or xs i x → flat_map f (take (i + 1) xs) ≡ flat_map f (take i xs) ++ f x
-  joined-next xs i x within read =
+  pub joined_next : (xs : List X) (i : ℕ) (x : X) → i < length xs → x ≡ get_or xs i x → flat_map f (take (i + 1) xs) ≡ flat_map f (take i xs) ++ f x
+  joined_next xs i x within read =
       ap (flat_map f) (take_more xs i x within)
-      ∙ joined-append (take i xs) (get_or xs i x ∷ [])
+      ∙ joined_append (take i xs) (get_or xs i x ∷ [])
       ∙ ap (λ l. flat_map f (take i xs) ++ l) (append-nil (f (get_or xs i x)) ∙ ap f (sym read))
 
-  pub joined-split : (xs : List X) (i : ℕ) (x : X) → i < length xs → x ≡ get_or xs i x → flat_map f xs ≡ (flat_map f (take i xs) ++ f x) ++ flat_map f (drop (i + 1) xs)
-  joined-split xs i x within read =
+  pub joined_split : (xs : List X) (i : ℕ) (x : X) → i < length xs → x ≡ get_or xs i x → flat_map f xs ≡ (flat_map f (take i xs) ++ f x) ++ flat_map f (drop (i + 1) xs)
+  joined_split xs i x within read =
       sym (ap (flat_map f) (take-append-drop (i + 1) xs))
-      ∙ joined-append (take (i + 1) xs) (drop (i + 1) xs)
-      ∙ ap (λ l. l ++ flat_map f (drop (i + 1) xs)) (joined-next xs i x within read)
+      ∙ joined_append (take (i + 1) xs) (drop (i + 1) xs)
+      ∙ ap (λ l. l ++ flat_map f (drop (i + 1) xs)) (joined_next xs i x within read)

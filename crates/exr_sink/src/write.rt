@@ -7,8 +7,8 @@ use exr_error::stop::Full;
 /// Where the sink stops first, it has taken the first ones, as many as it
 /// could.
 pub fn write_all<W: Sink>(sink: &mut W, bytes: &[u8]) -> Result<(), Full>
-    ensures takes { GaveAll (means sink.old) bytes.now result (means sink.new) }
-    ensures kept { keeps sink.old sink.new }
+    ensures takes { GaveAll (W.means sink.old) bytes.now result (W.means sink.new) }
+    ensures kept { W.keeps sink.old sink.new }
 {
     let mut given = 0;
     while given < bytes.len() {

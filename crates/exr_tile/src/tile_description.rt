@@ -31,8 +31,8 @@ pub struct TileDescription {
 
 /// Gives two sides and a mode byte to a sink.
 fn write_parts<W: Sink>(sink: &mut W, width: u32, height: u32, mode: u8) -> Result<(), Full>
-    ensures takes { GaveAll (means sink.old) (field_bytes (fields_of tiledesc) (width ∷ height ∷ mode ∷ [])) result (means sink.new) }
-    ensures kept { keeps sink.old sink.new }
+    ensures takes { GaveAll (W.means sink.old) (field_bytes (fields_of tiledesc) (width ∷ height ∷ mode ∷ [])) result (W.means sink.new) }
+    ensures kept { W.keeps sink.old sink.new }
 {
     let sides = [width, height];
     write_slice_le(sink, &sides)?;
@@ -69,8 +69,8 @@ impl TileDescription {
     /// Gives its sides and its mode byte to a sink. A side above 4294967295
     /// gets 12 before a byte is given; a sink that takes no more gets 20.
     pub fn write<W: Sink>(&self, sink: &mut W) -> Result<(), Refusal>
-        ensures takes { Wrote (sides_ask self.now.tile_size) (means sink.old) (field_bytes (fields_of tiledesc) (tile_numbers self.now)) result (means sink.new) }
-        ensures kept { keeps sink.old sink.new }
+        ensures takes { Wrote (sides_ask self.now.tile_size) (W.means sink.old) (field_bytes (fields_of tiledesc) (tile_numbers self.now)) result (W.means sink.new) }
+        ensures kept { W.keeps sink.old sink.new }
     {
         let width = self.tile_size.0;
         let height = self.tile_size.1;

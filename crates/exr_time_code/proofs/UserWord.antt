@@ -18,9 +18,9 @@ user_below (g ∷ gs) = rw sixteen (omega (arith, user_below gs))
 
 pub group_step : (gs : List ℕ) (i at word n : ℕ) → i < length gs → length gs ≤ 8 → at ≡ 4 * i → word ≡ user_word (take i gs) → n ≡ min (get_or gs i 0) 15 →
     (word + (n * 2 ^ at) % 2 ^ 32 ≡ user_word (take (i + 1) gs)) × (word + (n * 2 ^ at) % 2 ^ 32 < 2 ^ 32)
-group_step gs i at word n h few at-is word-is n-is =
+group_step gs i at word n h few at-is word_is n_is =
     let whole : (n * 2 ^ at) % 2 ^ 32 ≡ n * 2 ^ at = shl_whole n 4 at 32 (omega arith) (omega arith) in
-    let place : n * 2 ^ at ≡ min (get_or gs i 0) 15 * 2 ^ (4 * i) = rw (n-is, at-is) refl in
+    let place : n * 2 ^ at ≡ min (get_or gs i 0) 15 * 2 ^ (4 * i) = rw (n_is, at-is) refl in
     let sum : word + (n * 2 ^ at) % 2 ^ 32 ≡ user_word (take (i + 1) gs) = omega (arith, user_more gs i h) in
     let k : ℕ = length (take (i + 1) gs) in
     let short : k ≤ 8 = simp length-take (omega arith) in

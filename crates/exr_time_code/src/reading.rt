@@ -35,8 +35,8 @@ impl TimeCode {
     /// Gives its two words to a sink. A number out of its range gets 13 before
     /// a byte is given; a sink that takes no more gets 20.
     pub fn write<W: Sink>(&self, sink: &mut W) -> Result<(), Refusal>
-        ensures takes { Wrote (time_ask (time_of self.now)) (means sink.old) (field_bytes time_fields (time_numbers (time_of self.now))) result (means sink.new) }
-        ensures kept { keeps sink.old sink.new }
+        ensures takes { Wrote (time_ask (time_of self.now)) (W.means sink.old) (field_bytes time_fields (time_numbers (time_of self.now))) result (W.means sink.new) }
+        ensures kept { W.keeps sink.old sink.new }
     {
         let time_and_flags = self.pack_time_as_tv60_u32()?;
         write_words(sink, time_and_flags, self.pack_user_data_as_u32())?;
@@ -53,8 +53,8 @@ fn of_words(time_and_flags: u32, user_data: u32) -> TimeCode
 
 /// Gives two words to a sink.
 fn write_words<W: Sink>(sink: &mut W, time_and_flags: u32, user_data: u32) -> Result<(), Full>
-    ensures takes { GaveAll (means sink.old) (field_bytes time_fields (time_and_flags ∷ user_data ∷ [])) result (means sink.new) }
-    ensures kept { keeps sink.old sink.new }
+    ensures takes { GaveAll (W.means sink.old) (field_bytes time_fields (time_and_flags ∷ user_data ∷ [])) result (W.means sink.new) }
+    ensures kept { W.keeps sink.old sink.new }
 {
     let words = [time_and_flags, user_data];
     write_slice_le(sink, &words)

@@ -69,8 +69,8 @@ impl KeyCode {
     /// Takes the 28 bytes of a key code from a source. If fewer are to come,
     /// they are all taken, and 18 or 19 tells how many.
     pub fn read_from<S: Source>(source: &mut S) -> Result<KeyCode, Fault>
-        ensures takes { Taken (means source.old) result (means source.new) }
-        ensures kept { keeps source.old source.new }
+        ensures takes { Taken (S.means source.old) result (S.means source.new) }
+        ensures kept { S.keeps source.old source.new }
     {
         let mut bytes = [0u8; 28];
         read_exact(source, &mut bytes)?;
@@ -82,8 +82,8 @@ impl KeyCode {
 
     /// Gives its seven numbers to a sink, in the order of the fields.
     pub fn write<W: Sink>(&self, sink: &mut W) -> Result<(), Full>
-        ensures takes { GaveAll (means sink.old) (key_code_bytes (numbers_of self.now)) result (means sink.new) }
-        ensures kept { keeps sink.old sink.new }
+        ensures takes { GaveAll (W.means sink.old) (key_code_bytes (numbers_of self.now)) result (W.means sink.new) }
+        ensures kept { W.keeps sink.old sink.new }
     {
         let numbers = [
             self.film_manufacturer_code,

@@ -12,7 +12,7 @@ use Rattle.layout.specs.Boxes.{in_range, last_of, axis_good, axis}
 use Rattle.layout.specs.Fields.{Field, Held, field_bytes, size}
 use Rattle.layout.specs.TimeCodes.{time_numbers}
 use Rattle.layout.specs.Kinds.{Fixed, box2f, int, float, rational, v2i, v2f, v3i, v3f, m33f, m44f, chromaticities, keycode, compression, envmap, line_order, tiledesc, fields_of}
-use Rattle.layout.specs.Kinds.{double as double-kind}
+use Rattle.layout.specs.Kinds.{double as double_kind}
 use Rattle.layout.specs.Values.{Form, Numbers, Bounds, Time, Preview, bytes_of, Shaped, Good}
 use Rattle.layout.specs.Laws.{size_of, Sizes, WordsRead, NotANumber, FloatsOne, BoxesSpan}
 use Rattle.layout.proofs.Numbered.{length-low_first}
@@ -84,7 +84,7 @@ sizes_are : (k : Fixed) → size (fields_of k) ≡ size_of k
 sizes_are box2f = refl
 sizes_are int = refl
 sizes_are float = refl
-sizes_are double-kind = refl
+sizes_are double_kind = refl
 sizes_are rational = refl
 sizes_are v2i = refl
 sizes_are v2f = refl

@@ -238,7 +238,7 @@ unfolding ChannelGood Held
 channels_good [] t n s = tt
 channels_good (c ∷ cs) t n s = (
   (
-    name-good c.name n.0,
+    name_good c.name n.0,
     (
       omega arith,
       le-leb c.sample 2 t.0,
@@ -269,9 +269,9 @@ channels_good (c ∷ cs) t n s = (
   channels_good cs t.2 n.1 s.2,
 )
   where
-    name-good : (o : Option Bytes) → NameThere o → Named (given o)
-    name-good (Some b) h = h
-    name-good None h = absurd h
+    name_good : (o : Option Bytes) → NameThere o → Named (given o)
+    name_good (Some b) h = h
+    name_good None h = absurd h
 
 code_held : (c : Compression) → Held (up_to 1 8 11 ∷ []) (compression_code c ∷ [])
 unfolding Held
@@ -360,11 +360,11 @@ given_texts (None ∷ ts) h = absurd h.0
 given_channels : (cs : List GivenChannel) → AllNamed cs → some_channels (channels_given cs) ≡ cs
 given_channels [] h = refl
 given_channels (c ∷ cs) h =
-    λ i. record { name = whole-name c.name h.0 i; sample = c.sample; linear = c.linear; x = c.x; y = c.y } ∷ given_channels cs h.1 i
+    λ i. record { name = whole_name c.name h.0 i; sample = c.sample; linear = c.linear; x = c.x; y = c.y } ∷ given_channels cs h.1 i
   where
-    whole-name : (o : Option Bytes) → NameThere o → Some (given o) ≡ o
-    whole-name (Some b) h = refl
-    whole-name None h = absurd h
+    whole_name : (o : Option Bytes) → NameThere o → Some (given o) ≡ o
+    whole_name (Some b) h = refl
+    whole_name None h = absurd h
 
 tiles_same : (w h : ℕ) (l : LevelMode) (r : RoundingMode) → numbers_value tiledesc (w ∷ h ∷ mode_byte l r ∷ []) ≡ tiles w h l r
 tiles_same w h Singular Down = refl

@@ -7,7 +7,7 @@ use Rattle.layout.specs.Floats.{single, double}
 use Rattle.layout.specs.Names.{Named}
 use Rattle.layout.specs.Boxes.{Box, last_of, axis_good, axis}
 use Rattle.layout.specs.Kinds.{Fixed, box2f, int, float, rational, v2i, v2f, v3i, v3f, m33f, m44f, chromaticities, keycode, compression, envmap, line_order, tiledesc}
-use Rattle.layout.specs.Kinds.{double as double-kind}
+use Rattle.layout.specs.Kinds.{double as double_kind}
 use Rattle.layout.specs.TimeCodes.{TimeCode}
 use Rattle.layout.specs.Values.{Form, Numbers, Bounds, Time, Preview, Value, kind_of, bytes_of, loaded_form, Good}
 use Rattle.layout.specs.Decode.{read_value, decode, Last}
@@ -100,7 +100,7 @@ abbrev pub size_of : Fixed → ℕ
 size_of box2f = 16
 size_of int = 4
 size_of float = 4
-size_of double-kind = 8
+size_of double_kind = 8
 size_of rational = 8
 size_of v2i = 8
 size_of v2f = 8

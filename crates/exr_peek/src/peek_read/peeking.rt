@@ -3,7 +3,7 @@ ghost use Rattle.std.specs.Result.{result_ok};
 ghost use Rattle.layout.specs.Streams.{source_of};
 ghost use Rattle.exr_read.specs.Fills.{next_of};
 ghost use Rattle.exr_source.specs.Requests.{Requested};
-ghost use Rattle.exr_peek.specs.Peeks.{Alone, peek_means, peek_proper, PeekKept, peek-steady, is_next, sans_next};
+ghost use Rattle.exr_peek.specs.Peeks.{Alone, peek_means, peek_proper, PeekKept, peek_steady, is_next, sans_next};
 
 use crate::peek_read::PeekRead;
 use exr_error::stop::Stop;
@@ -17,7 +17,7 @@ impl<S: Source> Source for PeekRead<S> {
 
     ghost keeps = { PeekKept S.means S.keeps };
 
-    ghost steady = { peek-steady S.means S.steady };
+    ghost steady = { peek_steady S.means S.steady };
 
     /// A kept byte is given alone: nothing is asked below.
     fn read(&mut self, buffer: &mut [u8]) -> Result<usize, Stop>

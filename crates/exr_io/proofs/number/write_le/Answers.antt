@@ -7,17 +7,17 @@ use Rattle.exr_io.proofs.number.write_le.Goals as goal
 pub returns : goal.returns
 returns g c =
     let w = g.D.Data.width in
-    let size = c.size-in-bytes-size.result in
-    let n = c.to-word.result in
-    let front : size - 0 ≡ w = omega (arith, c.size-in-bytes-size.ensures.size) in
-    let few : w ≤ 8 = omega (arith, c.size-in-bytes-size.ensures.size, c.size-in-bytes-size.ensures.most) in
-    let bytes-are : take (size - 0) c.to-le-bytes-bytes.result ≡ low_first w (g.D.Data.bits c.args.number) =
-    ap (λ k. take k c.to-le-bytes-bytes.result) front
-    ∙ ap (take w) (c.to-le-bytes-bytes.ensures ∙ eight_low_first n)
+    let size = c.size_in_bytes-size.result in
+    let n = c.to_word.result in
+    let front : size - 0 ≡ w = omega (arith, c.size_in_bytes-size.ensures.size) in
+    let few : w ≤ 8 = omega (arith, c.size_in_bytes-size.ensures.size, c.size_in_bytes-size.ensures.most) in
+    let bytes_are : take (size - 0) c.to_le_bytes-bytes.result ≡ low_first w (g.D.Data.bits c.args.number) =
+    ap (λ k. take k c.to_le_bytes-bytes.result) front
+    ∙ ap (take w) (c.to_le_bytes-bytes.ensures ∙ eight_low_first n)
     ∙ take-low_first w 8 n few
-    ∙ ap (low_first w) c.to-word.ensures.word in
+    ∙ ap (low_first w) c.to_word.ensures.word in
     record {
-      takes = gave_same _ _ _ _ _ bytes-are c.write-all.ensures.takes;
-      kept = c.write-all.ensures.kept;
-      valid = c.to-word.ensures.valid;
+      takes = gave_same _ _ _ _ _ bytes_are c.write_all.ensures.takes;
+      kept = c.write_all.ensures.kept;
+      valid = c.to_word.ensures.valid;
     }

@@ -1,23 +1,23 @@
 use Rattle.std.proofs.Common.{arith}
-use Rattle.exr_read.proofs.Filling.{filling-more, filling-stopped, filling-done}
+use Rattle.exr_read.proofs.Filling.{filling_more, filling_stopped, filling_done}
 use Rattle.exr_read.proofs.read.read_exact.Goals as goal
 
 pub loop-filled-preserved : goal.loop-filled-preserved
 loop-filled-preserved g c = (
-  filling-more _ _ _ _ _ c.loop-filled.invariant.0 _ _ _ c.in-Ok.ensures.gives,
+  filling_more _ _ _ _ _ c.loop-filled.invariant.0 _ _ _ c.in-Ok.ensures.gives,
   g.S.Source.steady.on _ _ _ c.loop-filled.invariant.1 c.in-Ok.ensures.kept,
 )
 
 pub returns-in-Err : goal.returns-in-Err
 returns-in-Err g c =
     record {
-      fills = filling-stopped _ _ _ _ _ c.loop-filled.invariant.0 _ _ _ c.in-Err.ensures.gives;
+      fills = filling_stopped _ _ _ _ _ c.loop-filled.invariant.0 _ _ _ c.in-Err.ensures.gives;
       kept = g.S.Source.steady.on _ _ _ c.loop-filled.invariant.1 c.in-Err.ensures.kept;
     }
 
 pub returns : goal.returns
 returns g c =
     record {
-      fills = filling-done _ _ _ _ _ c.loop-filled.invariant.0 (omega (arith, c.loop-filled-test.false, c.loop-filled.auto.buffer));
+      fills = filling_done _ _ _ _ _ c.loop-filled.invariant.0 (omega (arith, c.loop-filled-test.false, c.loop-filled.auto.buffer));
       kept = c.loop-filled.invariant.1;
     }

@@ -4,4 +4,4 @@ use Rattle.exr_time_code.proofs.reading.of_words.Goals as goal
 
 pub returns : goal.returns
 unfolding code_of_words
-returns c = c.from-tv60-time.ensures
+returns c = c.from_tv60_time.ensures

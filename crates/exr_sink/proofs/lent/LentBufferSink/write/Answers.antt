@@ -1,5 +1,5 @@
 use Rattle.std.proofs.Common.{◌+◌, ◌≤◌, length, refl, arith}
-use Rattle.exr_sink.proofs.Laying.{written-meaning, written-length, written_behind}
+use Rattle.exr_sink.proofs.Laying.{written_meaning, written_length, written_behind}
 use Rattle.exr_sink.proofs.lent.LentBufferSink.write.Goals as goal
 
 pub returns : goal.returns
@@ -10,13 +10,13 @@ returns c =
     let bytes = c.args.bytes.now in
     let within : at + k ≤ length buffer = omega arith in
     let given : k ≤ length bytes = omega arith in
-    let e = c.copy-from-slice.ensures.after in
+    let e = c.copy_from_slice.ensures.after in
     record {
       takes = record {
         given = given;
         room = omega arith;
         some = omega arith;
-        after = written-meaning at k buffer bytes _ within given e (length buffer) _ 1 (written-length at k buffer bytes _ within given e);
+        after = written_meaning at k buffer bytes _ within given e (length buffer) _ 1 (written_length at k buffer bytes _ within given e);
       };
-      kept = record { lender = refl; long = written-length at k buffer bytes _ within given e; further = omega arith; within = λ _. omega (arith, written-length at k buffer bytes _ within given e); behind = written_behind at k buffer bytes _ within given e };
+      kept = record { lender = refl; long = written_length at k buffer bytes _ within given e; further = omega arith; within = λ _. omega (arith, written_length at k buffer bytes _ within given e); behind = written_behind at k buffer bytes _ within given e };
     }
