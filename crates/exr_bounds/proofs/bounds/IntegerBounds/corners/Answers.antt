@@ -2,11 +2,11 @@ use Rattle.std.proofs.Common.{rules}
 use Rattle.exr_bounds.proofs.Boxes.{both_ends, ends_at, no_x_end, no_y_end, last_below}
 use Rattle.exr_bounds.proofs.bounds.IntegerBounds.corners.Goals as goal
 
-pub returns-in-default : goal.returns-in-default
-returns-in-default c = let e = no_x_end c.args.self.now (search rules) in search rules
+pub returns-in_default : goal.returns-in_default
+returns-in_default c = let e = no_x_end c.args.self.now (search rules) in search rules
 
-pub returns-in-default-last_of : goal.returns-in-default-last_of
-returns-in-default-last_of c = let e = no_y_end c.args.self.now (search rules) in search rules
+pub returns-in_default-last_of : goal.returns-in_default-last_of
+returns-in_default-last_of c = let e = no_y_end c.args.self.now (search rules) in search rules
 
 pub returns : goal.returns
 returns c =

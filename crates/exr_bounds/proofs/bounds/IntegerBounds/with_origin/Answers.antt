@@ -4,15 +4,15 @@ use Rattle.exr_bounds.specs.Bounds.{box_of, moved}
 use Rattle.exr_bounds.proofs.Boxes.{moved_same, moved_x_out, moved_y_out}
 use Rattle.exr_bounds.proofs.bounds.IntegerBounds.with_origin.Goals as goal
 
-pub returns-in-default : goal.returns-in-default
-returns-in-default c =
+pub returns-in_default : goal.returns-in_default
+returns-in_default c =
     let e : c.position-position.result.0 ≡ (box_of c.args.self).position.0 = ap (λ (p : Vec2 ℤ). p.0) c.position-position.ensures in
-    moved_x_out (moved c.args.origin (box_of c.args.self)) (λ fit. c.in-default.ensures (search rules))
+    moved_x_out (moved c.args.origin (box_of c.args.self)) (λ fit. c.in_default.ensures (search rules))
 
-pub returns-in-default-checked_add : goal.returns-in-default-checked_add
-returns-in-default-checked_add c =
+pub returns-in_default-checked_add : goal.returns-in_default-checked_add
+returns-in_default-checked_add c =
     let e : c.position-position.result.1 ≡ (box_of c.args.self).position.1 = ap (λ (p : Vec2 ℤ). p.1) c.position-position.ensures in
-    moved_y_out (moved c.args.origin (box_of c.args.self)) (λ fit. c.in-default-checked_add.ensures (search rules))
+    moved_y_out (moved c.args.origin (box_of c.args.self)) (λ fit. c.in_default-checked_add.ensures (search rules))
 
 pub returns : goal.returns
 returns c =
