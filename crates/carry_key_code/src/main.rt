@@ -1,6 +1,7 @@
 //! Carries the key code of a film frame from bytes to its seven numbers and
 //! back to bytes, and prints each step. Takes the bytes from the file that its
 //! argument names, or from an example that it carries.
+#![tactic(auto)]
 
 use anyhow::anyhow;
 use key_code_trip::{Trip, carry};

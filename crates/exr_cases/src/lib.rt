@@ -1,4 +1,6 @@
 //! Examples, each with what the rules and the mathematics say of it.
+#![tactic(auto)]
+
 #[cfg(test)]
 mod logarithms;
 #[cfg(test)]

@@ -1,5 +1,7 @@
 //! Conversions between integer types: the same number, or none where the other
 //! type does not have it.
+#![tactic(auto)]
+
 ghost use Rattle.exr_convert.specs.Conversions.{Nonnegative, Fitting, FittingI32};
 
 /// The same number as a usize, or none if it is negative.

@@ -1,5 +1,5 @@
 -- Case by case, the refusals are those of the list.
-use Rattle.std.proofs.Common.{◌≡◌, ℕ, ◌-◌, Bool, ◌||◌, eqb, get_or, is_some, unwrap_or, refl}
+use Rattle.std.proofs.Common.{◌≡◌, ◌-◌, ◌||◌, eqb, get_or, is_some, unwrap_or, refl}
 use Rattle.exr_error.specs.Refusals.{number_of, stop_of}
 use Rattle.exr_error.specs.Numbering.{in_order, Numbered}
 use Rattle.exr_error.specs.declared.refusal.Refusal.{Refusal}

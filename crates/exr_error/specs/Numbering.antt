@@ -1,5 +1,5 @@
 -- The numbers of the refusals a second time, by their order: the laws that pin `number_of` and `stop_of`.
-use Rattle.std.specs.Prelude.{◌≡◌, ℕ, ◌-◌, Bool, ◌||◌, List, [], ◌∷◌, map, is_some, ◌==◌, slice_index_or}
+use Rattle.std.specs.Prelude.{◌≡◌, ℕ, ◌-◌, ◌||◌, List, [], ◌∷◌, map, is_some, ◌==◌, slice_index_or}
 use Rattle.std.specs.Option.{unwrap_or}
 use Rattle.exr_error.specs.Refusals.{number_of, stop_of}
 use Rattle.exr_error.specs.declared.refusal.Refusal.{Refusal}

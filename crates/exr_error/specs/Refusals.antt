@@ -1,5 +1,5 @@
 -- The thirty refusals: the number, the layer, the variant in the Rust crate and the stop of each.
-use Rattle.std.specs.Prelude.{◌≡◌, ℕ, ◌≤◌, Bool, true, false, cond, ◌||◌, Some, None, Option, ◌==◌, nat_le}
+use Rattle.std.specs.Prelude.{ℕ, cond, ◌||◌, Some, None, Option, ◌==◌, nat_le}
 use Rattle.exr_error.specs.declared.stop.Stop.{Stop}
 use Rattle.exr_error.specs.declared.stop.Stop.TheVariants.{End, Device}
 use Rattle.exr_error.specs.declared.stop.Full.{Full}

@@ -1,5 +1,7 @@
 //! Floats by their bits. A value that lies beside borrowed bytes holds the
 //! bits; its users are given floats.
+#![tactic(auto)]
+
 pub mod double;
 pub mod laws;
 pub mod pairs;

@@ -1,11 +1,9 @@
 -- Floats that are written are read back.
-use Rattle.std.proofs.Common.{◌≡◌, ℕ, zero, suc, ◌%◌, ◌^◌, ◌<◌, Bool, true, false, cond, ltb, List, [], ◌∷◌, ◌++◌, map, length, replicate, sym, refl, ap, ◌∙◌, arith}
-use lib.Ieee.{binary32, binary64, of_bits}
-use Rattle.layout.specs.Numbers.{Bytes, range}
+use Rattle.std.proofs.Common.{◌≡◌, ℕ, ◌%◌, ◌^◌, ◌<◌, Bool, true, false, cond, ltb, List, [], ◌∷◌, ◌++◌, map, length, replicate, sym, refl, ap, ◌∙◌, arith}
+use lib.Ieee.{binary32, of_bits}
+use Rattle.layout.specs.Numbers.{range}
 use Rattle.layout.specs.Floats.{one_nan, single, double}
-use Rattle.layout.specs.Fields.{f32, f64, fields, field_bytes, singles, Held}
-use Rattle.layout.specs.Kinds.{fields_of}
-use Rattle.layout.specs.Kinds.{double as double_kind}
+use Rattle.layout.specs.Fields.{f32, f64, field_bytes, Held}
 use Rattle.layout.proofs.Fielded.{fields_back, fields_written, words_are}
 use Rattle.exr_float.specs.declared.single.F32Bits.{F32Bits}
 use Rattle.exr_float.specs.declared.double.F64Bits.{F64Bits}

@@ -1,5 +1,5 @@
 -- Floats that are written and read again.
-use Rattle.std.specs.Prelude.{◌≡◌, ℕ, ◌^◌, ◌<◌, List, [], ◌∷◌, ◌++◌, map, length, Ok, Err, from_bits}
+use Rattle.std.specs.Prelude.{◌≡◌, ◌^◌, ◌<◌, List, [], ◌∷◌, ◌++◌, map, length, Ok, from_bits}
 use Rattle.std.specs.Float.{binary32, binary64}
 use Rattle.layout.specs.Numbers.{Bytes}
 use Rattle.layout.specs.Floats.{double}

@@ -1,5 +1,7 @@
 //! Floats in a file: read at the front of some bytes into their bits, and
 //! given to a sink.
+#![tactic(auto)]
+
 pub mod laws;
 pub mod read;
 pub mod write;

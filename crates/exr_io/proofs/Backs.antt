@@ -1,10 +1,10 @@
 -- The bytes of numbers read back as these numbers.
-use Rattle.std.proofs.Common.{◌≡◌, ℕ, suc, ◌+◌, ◌<◌, ◌≤◌, cond, leb, List, [], ◌∷◌, ◌++◌, length, take, drop, sym, refl, ap, ◌∙◌, arith, le-leb}
+use Rattle.std.proofs.Common.{◌≡◌, ℕ, ◌+◌, ◌<◌, ◌≤◌, cond, [], ◌∷◌, ◌++◌, length, take, drop, refl, ap, ◌∙◌, arith, le-leb}
 use Rattle.std.specs.List.{flat_map}
 use Rattle.std.proofs.lemmas.List.{length-append, take_at, drop_at}
 use Rattle.layout.specs.Numbers.{Bytes, whole, range, low_first}
 use Rattle.layout.proofs.Numbered.{length-low_first, whole-low_first}
-use Rattle.exr_io.specs.Runs.{read_into, Each, RunsReadBack}
+use Rattle.exr_io.specs.Runs.{read_into, RunsReadBack}
 
 module _ {X : Type 0} (w : ℕ) (fits : X → Type 0) (bits : X → ℕ) (value : ℕ → X) (below : (x : X) → fits x → bits x < range w) (back : (x : X) → fits x → value (bits x) ≡ x) where
   abbrev spelled : X → Bytes

@@ -1,12 +1,12 @@
 -- A number taken from a source through the front of an array of eight bytes.
-use Rattle.std.proofs.Common.{◌≡◌, ℕ, zero, suc, ◌+◌, ◌-◌, ◌%◌, ◌<◌, ◌≤◌, min, Bool, true, false, leb, List, [], ◌∷◌, ◌++◌, length, take, drop, replicate, Ok, Err, Option, Result, sym, refl, ap, ◌∙◌, subst, arith, le-leb, leb-true}
+use Rattle.std.proofs.Common.{◌≡◌, ℕ, zero, suc, ◌-◌, ◌%◌, ◌≤◌, leb, ◌∷◌, ◌++◌, length, take, drop, Ok, sym, refl, ap, ◌∙◌, subst, arith, le-leb, leb-true}
 use borrow.Rule.Slice.PartMut.{post_of}
 use Rattle.std.proofs.lemmas.List.{length-replicate, length-take-le, length-append, drop_all, append-nil}
 use Rattle.layout.specs.Numbers.{Bytes, EachByte, whole, range}
 use Rattle.layout.specs.Streams.{SourceMeaning, after}
 use Rattle.exr_source.specs.Requests.{laid}
 use Rattle.exr_read.proofs.Filling.{ok_all}
-use Rattle.exr_read.specs.Fills.{all_or, come, Filled}
+use Rattle.exr_read.specs.Fills.{come, Filled}
 use Rattle.exr_io.specs.Reads.{one_or, ReadLe}
 use Rattle.exr_io.proofs.Words.{zeros, eight_whole, whole_eight, whole_before_zeros, whole_small}
 

@@ -1,8 +1,7 @@
 -- Numbers of a width taken from a source.
-use Rattle.std.specs.Prelude.{◌≡◌, ℕ, ◌*◌, ◌<◌, ◌≤◌, Bool, true, false, cond, List, [], ◌∷◌, length, take, Ok, Err, Option, Result, nat_le}
-use Rattle.std.specs.List.{flat_map}
+use Rattle.std.specs.Prelude.{◌≡◌, ℕ, Bool, true, false, length, take, Ok, Err, Option, Result, nat_le}
 use Rattle.exr_error.specs.declared.stop.Stop.{Stop}
-use Rattle.layout.specs.Numbers.{Bytes, whole, low_first}
+use Rattle.layout.specs.Numbers.{whole}
 use Rattle.layout.specs.Streams.{SourceMeaning, after}
 use Rattle.exr_source.specs.Requests.{stop_at}
 use Rattle.exr_read.specs.Fills.{come}

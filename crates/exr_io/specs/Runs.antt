@@ -1,5 +1,5 @@
 -- Runs of numbers of one width, one directly after the other.
-use Rattle.std.specs.Prelude.{◌≡◌, ℕ, ◌*◌, Bool, true, false, cond, List, [], ◌∷◌, length, take, drop, Result, nat_le}
+use Rattle.std.specs.Prelude.{◌≡◌, ℕ, ◌*◌, cond, List, [], ◌∷◌, length, take, drop, Result, nat_le}
 use Rattle.std.specs.List.{flat_map}
 use Rattle.exr_error.specs.declared.stop.Stop.{Stop}
 use Rattle.layout.specs.Numbers.{Bytes, whole, low_first}

@@ -1,5 +1,5 @@
 -- Quotients of whole numbers, the first not below 0 and the second not below 1.
-use Rattle.std.proofs.Common.{◌≡◌, ℕ, ◌+◌, ◌*◌, ◌/◌, ◌%◌, ◌<◌, ◌≤◌, ℤ, pos, negsuc, nat_abs, ◌≤ℤ◌, ◌<ℤ◌, Some, None, Option, add-mul, div-le_self, arith, le→leb, lt→ltb}
+use Rattle.std.proofs.Common.{ℕ, ◌+◌, ◌*◌, ◌/◌, ◌<◌, ◌≤◌, ℤ, pos, negsuc, nat_abs, ◌≤ℤ◌, Some, None, Option, add-mul, div-le_self, arith, le→leb, lt→ltb}
 use lib.Signed.{quot_z, le_z_yes, lt_z_yes}
 use Rattle.std.proofs.lemmas.Nat.{div-add-mod', mod_below}
 use Rattle.std.proofs.lemmas.Int.{ints}

@@ -1,5 +1,5 @@
 -- Quotients as whole numbers, by multiplication alone.
-use Rattle.std.specs.Prelude.{◌≡◌, ◌⊎◌, ℤ, pos, ◌+ℤ◌, ◌-ℤ◌, ◌*ℤ◌, ◌≤ℤ◌, ◌<ℤ◌, Some, None, Option}
+use Rattle.std.specs.Prelude.{◌⊎◌, ℤ, pos, ◌+ℤ◌, ◌-ℤ◌, ◌*ℤ◌, ◌≤ℤ◌, ◌<ℤ◌, Some, None, Option}
 use Rattle.exr_number.specs.Numbers.{Range}
 use Rattle.exr_math.specs.declared.rounding.RoundingMode.{RoundingMode}
 use Rattle.exr_math.specs.declared.rounding.RoundingMode.TheVariants.{Down, Up}

@@ -1,4 +1,6 @@
 //! Logarithms and quotients of whole numbers, rounded up or down.
+#![tactic(auto)]
+
 pub mod logarithms;
 pub mod rounding;
 

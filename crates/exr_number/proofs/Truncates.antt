@@ -1,9 +1,9 @@
 -- The quotient toward zero, sign by sign.
-use Rattle.std.proofs.Common.{◌≡◌, ℕ, zero, suc, ◌+◌, ◌*◌, ◌/◌, ◌%◌, ◌<◌, ◌≤◌, ℤ, pos, negsuc, ◌*ℤ◌, neg_ℤ, nat_abs, ◌≤ℤ◌, refl, le_refl, add-mul, div-le_self, arith}
+use Rattle.std.proofs.Common.{◌≡◌, ℕ, zero, suc, ◌+◌, ◌*◌, ◌/◌, ◌<◌, ◌≤◌, pos, negsuc, neg_ℤ, nat_abs, refl, le_refl, add-mul, div-le_self, arith}
 use lib.Signed.{quot_z}
 use Rattle.std.proofs.lemmas.Nat.{div-add-mod', mod_below, mul-le}
 use Rattle.std.proofs.lemmas.Int.{ints}
-use Rattle.exr_number.specs.Quotients.{Truncated, TowardZero}
+use Rattle.exr_number.specs.Quotients.{TowardZero}
 
 nat_abs_neg : (n : ℕ) → nat_abs (neg_ℤ (pos n)) ≡ n
 nat_abs_neg zero = refl

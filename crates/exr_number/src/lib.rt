@@ -1,4 +1,6 @@
 //! Whole numbers of any of the types that vectors and divisions are made of.
+#![tactic(auto)]
+
 ghost use Rattle.std.specs.Prelude.{◌≡◌, ℤ, pos, ◌+ℤ◌, ◌-ℤ◌, ◌*ℤ◌, int_div, int_lt};
 ghost use Rattle.exr_number.specs.Numbers.{Range, Within, Answers, QuotientFits};
 

@@ -1,8 +1,8 @@
 -- A part of some bytes that is there.
-use Rattle.std.proofs.Common.{◌≡◌, ℕ, ◌-◌, ◌≤◌, Bool, true, false, cond, leb, List, length, take, drop, Ok, Err, Result, sym, refl, ap, ◌∙◌, arith, length-drop, take_all}
+use Rattle.std.proofs.Common.{◌≡◌, ℕ, ◌-◌, ◌≤◌, Bool, length, take, drop, Ok, sym, ap, ◌∙◌, arith, length-drop, take_all}
 use Rattle.std.proofs.lemmas.Bool.{le-leb}
 use Rattle.layout.specs.Numbers.{Bytes}
-use Rattle.layout.specs.Questions.{Answer, asked, part}
+use Rattle.layout.specs.Questions.{asked, part}
 
 pub part_there : (n : ℕ) (xs : Bytes) → n ≤ length xs → Ok (take (n - 0) xs, take (length xs - n) (drop n xs)) ≡ part n xs
 part_there n xs h =

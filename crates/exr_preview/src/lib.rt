@@ -1,2 +1,4 @@
 //! A small picture of an image, as a value holds it.
+#![tactic(auto)]
+
 pub mod preview;

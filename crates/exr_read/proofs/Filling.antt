@@ -1,15 +1,15 @@
 -- A buffer that is filled from its start in several requests.
-use Rattle.std.proofs.Common.{◌≡◌, ℕ, ◌+◌, ◌-◌, ◌<◌, ◌≤◌, min, Bool, true, false, leb, List, [], ◌++◌, length, take, drop, Ok, Err, Option, Result, sym, refl, ap, ◌∙◌, arith, le-leb, leb-false, leb-true}
+use Rattle.std.proofs.Common.{◌≡◌, ℕ, ◌+◌, ◌-◌, ◌<◌, ◌≤◌, Bool, true, false, leb, List, [], ◌++◌, length, take, drop, Ok, Err, Option, sym, refl, ap, ◌∙◌, arith, le-leb, leb-false, leb-true}
 use borrow.Rule.Slice.PartMut.{put_mid}
 use borrow.Author.Tests.{lt-leb}
-use Rattle.std.proofs.lemmas.List.{append-nil, append_assoc, length-take-le, length-drop, take-append-drop, take-take, drop-take, drop-drop, drop_all, take_at, drop_at, take_rest}
+use Rattle.std.proofs.lemmas.List.{append-nil, append_assoc, length-take-le, length-drop, take-append-drop, drop-drop, drop_all, take_at, drop_at, take_rest}
 use Rattle.exr_error.specs.declared.stop.Stop.{Stop}
 use Rattle.layout.specs.Numbers.{Bytes}
 use Rattle.layout.proofs.Parts.{take_add, lent}
 use Rattle.layout.specs.Streams.{SourceMeaning, source_of, after}
 use Rattle.exr_read.specs.declared.read.Short.{Short}
 use Rattle.exr_source.specs.Requests.{stop_at, laid, Given, Stopped}
-use Rattle.exr_read.specs.Fills.{short, all_or, come, wanted, Filled}
+use Rattle.exr_read.specs.Fills.{short, all_or, come, Filled}
 
 -- what is lent from f on ends where the buffer ends
 put_rest : {X : Type 0} (f : ℕ) (buffer part : List X) → put_mid f (length buffer - f) buffer part ≡ take f buffer ++ part

@@ -1,5 +1,5 @@
 -- A buffer filled from a source, and the byte that comes next.
-use Rattle.std.specs.Prelude.{◌≡◌, ℕ, min, Bool, true, false, List, [], ◌∷◌, length, Ok, Err, Option, Result, nat_le}
+use Rattle.std.specs.Prelude.{◌≡◌, ℕ, min, Bool, true, false, [], ◌∷◌, length, Ok, Err, Option, Result, nat_le}
 use Rattle.exr_error.specs.declared.stop.Stop.{Stop}
 use Rattle.exr_error.specs.declared.fault.Fault.{Fault}
 use Rattle.exr_error.specs.Refusals.{ended}

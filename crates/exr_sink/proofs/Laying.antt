@@ -1,10 +1,10 @@
 -- A buffer that is written from a place on.
-use Rattle.std.proofs.Common.{◌≡◌, ℕ, ◌+◌, ◌-◌, ◌<◌, ◌≤◌, min, List, [], ◌++◌, length, take, drop, sym, refl, ap, ◌∙◌, arith}
+use Rattle.std.proofs.Common.{◌≡◌, ℕ, ◌+◌, ◌-◌, ◌≤◌, List, ◌++◌, length, take, drop, ap, ◌∙◌, arith}
 use borrow.Rule.Slice.PartMut.{put_mid}
-use Rattle.std.proofs.lemmas.List.{length-take, length-drop, length-append, length-take-le, drop-drop}
+use Rattle.std.proofs.lemmas.List.{length-take, length-drop, length-append, length-take-le}
 use Rattle.std.proofs.lemmas.Slice.{take-put_mid, drop-put_mid}
 use Rattle.layout.specs.Numbers.{Bytes}
-use Rattle.layout.specs.Streams.{SinkMeaning, sink_of, with}
+use Rattle.layout.specs.Streams.{sink_of, with}
 
 module _ {X : Type 0} (at k : ℕ) (buffer part : List X) (within : at + k ≤ length buffer) (fits : length part ≡ k) where
   pub put_length : length (put_mid at ((at + k) - at) buffer part) ≡ length buffer

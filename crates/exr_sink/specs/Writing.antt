@@ -1,5 +1,5 @@
 -- Bytes given to a sink after questions: a question answered no is the refusal, and the sink stays; otherwise the bytes are given.
-use Rattle.std.specs.Prelude.{◌≡◌, ℕ, min, Bool, true, false, List, length, Some, None, Ok, Err, Option, Result, nat_le}
+use Rattle.std.specs.Prelude.{◌≡◌, ℕ, min, Bool, true, false, length, Some, None, Ok, Err, Option, Result, nat_le}
 use Rattle.exr_error.specs.declared.refusal.Refusal.{Refusal}
 use Rattle.exr_error.specs.declared.refusal.Refusal.TheVariants.{SinkFull}
 use Rattle.exr_error.specs.declared.stop.Full.{Full}

@@ -1,11 +1,10 @@
 -- What a request to a chain's first source is to the chain.
-use Rattle.std.proofs.Common.{◌≡◌, ℕ, ◌<◌, ◌≤◌, List, [], ◌∷◌, ◌++◌, length, take, drop, Some, None, Option, sym, refl, ap, ◌∙◌, arith}
+use Rattle.std.proofs.Common.{◌≡◌, ℕ, [], Some, None, Option, sym, refl, ap, ◌∙◌, arith}
 use Rattle.std.proofs.lemmas.List.{length-append, take-append-le, drop-append-le}
-use Rattle.exr_error.specs.declared.stop.Stop.{Stop}
 use Rattle.exr_error.specs.declared.stop.Stop.TheVariants.{End, Device}
 use Rattle.layout.specs.Numbers.{Bytes}
-use Rattle.layout.specs.Streams.{SourceMeaning, source_of, after, chained, chained_at}
-use Rattle.exr_source.specs.Requests.{stop_at, laid, Given, Stopped, Requested}
+use Rattle.layout.specs.Streams.{SourceMeaning, source_of, chained, chained_at}
+use Rattle.exr_source.specs.Requests.{stop_at, Given}
 
 given_at : (s : Option ℕ) (bs : Bytes) (n : SourceMeaning) (buffer : Bytes) (k : ℕ) (m' : SourceMeaning) (buffer' : Bytes) →
     Given (source_of bs s) buffer k m' buffer' → Given (chained_at s bs n) buffer k (chained m' n) buffer'

@@ -1,5 +1,5 @@
 -- One request to a source: what it answers, lays in the buffer and leaves to come.
-use Rattle.std.specs.Prelude.{◌≡◌, ℕ, ◌<◌, ◌≤◌, List, [], ◌∷◌, ◌++◌, length, take, drop, Some, None, Ok, Err, Option, Result}
+use Rattle.std.specs.Prelude.{◌≡◌, ℕ, ◌<◌, ◌≤◌, [], ◌++◌, length, take, drop, Some, None, Ok, Err, Option, Result}
 use Rattle.exr_error.specs.declared.stop.Stop.{Stop}
 use Rattle.exr_error.specs.declared.stop.Stop.TheVariants.{End, Device}
 use Rattle.layout.specs.Numbers.{Bytes}

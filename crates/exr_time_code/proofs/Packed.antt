@@ -1,5 +1,5 @@
 -- What a packed time word says of the question on the time code.
-use Rattle.std.proofs.Common.{◌≡◌, ℕ, Bool, true, false, cond, List, [], ◌∷◌, Some, None, Ok, Err, Option, Result, sym, refl, ap, ◌∙◌, subst, arith}
+use Rattle.std.proofs.Common.{◌≡◌, ℕ, Bool, true, false, cond, List, [], ◌∷◌, Some, None, Ok, Err, Option, Result, refl, ap, ◌∙◌, subst, arith}
 use Rattle.exr_error.specs.declared.refusal.Refusal.{Refusal}
 use Rattle.exr_error.specs.declared.refusal.Refusal.TheVariants.{InvalidTimeCode}
 use Rattle.exr_error.specs.declared.stop.Full.{Full}

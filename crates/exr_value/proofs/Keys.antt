@@ -1,5 +1,5 @@
 -- Key codes taken from a source, and read back.
-use Rattle.std.proofs.Common.{◌≡◌, ℕ, ◌<◌, ◌≤◌, List, [], ◌∷◌, ◌++◌, length, take, ℤ, Ok, Err, Result, sym, refl, ap, ◌∙◌, subst, arith, to_z-of_z, w32, SFits, to_z, of_z}
+use Rattle.std.proofs.Common.{◌≡◌, ℕ, ◌<◌, ◌++◌, length, ℤ, Ok, Err, Result, sym, refl, ap, ◌∙◌, subst, arith, to_z-of_z, w32, SFits, to_z, of_z}
 use mir.Facts.{Fits-of_z}
 use Rattle.std.proofs.lemmas.List.{length-append, append-nil, nil_from_length, length-take-le}
 use Rattle.layout.specs.Numbers.{Bytes, EachByte, range}

@@ -1,5 +1,5 @@
 -- Numbers at the front of bytes that are long enough, by their places.
-use Rattle.std.proofs.Common.{◌≡◌, ℕ, ◌+◌, ◌-◌, ◌*◌, ◌≤◌, List, [], ◌∷◌, length, get_or, take, drop, Ok, Err, sym, refl, ap, ◌∙◌, arith, take_all}
+use Rattle.std.proofs.Common.{◌≡◌, ℕ, ◌+◌, ◌-◌, ◌*◌, ◌≤◌, [], ◌∷◌, length, get_or, take, drop, Ok, sym, refl, ap, ◌∙◌, arith, take_all}
 use Rattle.layout.specs.Numbers.{Bytes, whole}
 use Rattle.layout.specs.Questions.{Answer, next}
 use Rattle.layout.proofs.Reading.{part_back}

@@ -1,5 +1,5 @@
 -- What a reader of the code answers, as the layout has it.
-use Rattle.std.specs.Prelude.{ℕ, List, Ok, Err, Result}
+use Rattle.std.specs.Prelude.{ℕ, Ok, Err, Result}
 use Rattle.std.specs.Borrow.{Bor}
 use Rattle.exr_error.specs.declared.refusal.Refusal.{Refusal}
 use Rattle.exr_error.specs.Refusals.{number_of}

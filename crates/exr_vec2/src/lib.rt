@@ -1,4 +1,6 @@
 //! Vectors of two coordinates.
+#![tactic(auto)]
+
 pub mod conversions;
 pub mod coordinates;
 pub mod images;

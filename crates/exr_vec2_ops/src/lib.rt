@@ -1,5 +1,7 @@
 //! The operators on vectors, coordinate by coordinate, as functions that answer
 //! none where a coordinate does not fit.
+#![tactic(auto)]
+
 ghost use Rattle.std.specs.Prelude.{neg_ℤ, int_div, ◌+ℤ◌, ◌-ℤ◌, ◌*ℤ◌};
 ghost use Rattle.exr_number.specs.Numbers.{Within, QuotientFits};
 ghost use Rattle.exr_vec2.specs.Vectors.{Combined, Coordinates};

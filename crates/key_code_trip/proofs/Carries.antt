@@ -1,5 +1,5 @@
 -- Bytes that begin with those of a key code are carried.
-use Rattle.std.proofs.Common.{◌≡◌, ℕ, ◌+◌, ◌-◌, ◌≤◌, min, Bool, true, leb, List, ◌++◌, length, take, sym, refl, ap, ◌∙◌, arith, le-leb}
+use Rattle.std.proofs.Common.{◌≡◌, ℕ, ◌+◌, ◌-◌, min, Bool, true, leb, ◌++◌, length, take, sym, refl, ap, ◌∙◌, arith, le-leb}
 use Rattle.std.proofs.lemmas.List.{length-append, take_at}
 use Rattle.layout.specs.Numbers.{Bytes}
 use Rattle.layout.specs.KeyCodes.{key_code_bytes}

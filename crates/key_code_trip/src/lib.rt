@@ -1,4 +1,6 @@
 //! One trip of a key code, from bytes to numbers to bytes, as lines of text.
+#![tactic(auto)]
+
 ghost use Rattle.std.specs.Prelude.{◌≡◌, true, length, IfOk, nat_le};
 ghost use Rattle.layout.specs.KeyCodes.{key_code_bytes};
 ghost use Rattle.exr_value.specs.KeyCodes.{numbers_of};

@@ -1,13 +1,13 @@
 -- A box that is written is read back as it was.
-use Rattle.std.proofs.Common.{◌≡◌, ℕ, ◌+◌, ◌-◌, ◌<◌, Bool, true, false, cond, ◌&&◌, ltb, List, [], ◌∷◌, ◌++◌, ℤ, pos, negsuc, ◌+ℤ◌, ◌-ℤ◌, nat_abs, ◌≤ℤ◌, ◌<ℤ◌, sym, refl, ap, ◌∙◌, arith, w32, SFits, to_z, of_z}
-use lib.Signed.{le_z, lt_z}
+use Rattle.std.proofs.Common.{◌≡◌, ℕ, ◌-◌, ◌<◌, true, ℤ, pos, negsuc, ◌+ℤ◌, ◌-ℤ◌, nat_abs, ◌≤ℤ◌, refl, ap, ◌∙◌, arith, w32, SFits, to_z, of_z}
+use lib.Signed.{le_z}
 use borrow.Author.Differences.{fits_in}
 use Rattle.std.specs.Int.{int_min, int_max}
 use Rattle.std.proofs.lemmas.Int.{ints, clamps, to_z-of_z}
 use Rattle.std.proofs.lemmas.Bool.Decides.{nat_tests}
 use Rattle.layout.specs.Numbers.{range}
 use Rattle.layout.specs.Fields.{Held}
-use Rattle.layout.specs.Boxes.{Box, in_range, last_of, axis_good, box_good, axis, box_of, corners, box_from, corner_numbers}
+use Rattle.layout.specs.Boxes.{Box, last_of, axis_good, box_good, axis, corners, box_from, corner_numbers}
 
 from_le_z : (a b : ℤ) → le_z a b ≡ true → a ≤ℤ b
 from_le_z a b t = grind (arith, ints)

@@ -1,12 +1,12 @@
 -- The laws of channels and their lists.
-use Rattle.std.proofs.Common.{◌≡◌, ℕ, zero, suc, ◌+◌, ◌*◌, ◌<◌, ◌≤◌, Bool, true, false, cond, eqb, leb, ◌⊎◌, List, [], ◌∷◌, ◌++◌, length, get_or, take, drop, Some, None, Ok, Err, Option, Result, sym, refl, ap, ◌∙◌, subst, inl, inr, append_assoc, append-nil, le_of_suc-le-suc, not-suc-le-zero, arith, length-append}
-use Rattle.std.proofs.lemmas.Bool.{leb-true, leb-false, le-leb, eqb-true, eqb-false, ne_eqb, both_ways}
-use Rattle.layout.specs.Numbers.{Bytes, whole}
-use Rattle.layout.specs.Questions.{Answer, next, asked, part}
+use Rattle.std.proofs.Common.{◌≡◌, ℕ, zero, suc, ◌<◌, ◌≤◌, Bool, true, false, cond, eqb, leb, List, [], ◌∷◌, ◌++◌, length, get_or, drop, Ok, Err, sym, refl, ap, ◌∙◌, subst, inl, append_assoc, le_of_suc-le-suc, not-suc-le-zero, arith, length-append}
+use Rattle.std.proofs.lemmas.Bool.{leb-true, le-leb, eqb-true, eqb-false, ne_eqb}
+use Rattle.layout.specs.Numbers.{Bytes}
+use Rattle.layout.specs.Questions.{Answer, next, asked}
 use Rattle.layout.specs.Questions.{Question, FirstNo, refusal}
-use Rattle.layout.specs.Names.{NonZero, Named, before_zero, channel_name}
-use Rattle.layout.specs.Fields.{Field, fields, field_bytes, Numbers, Held, field_questions, numbers_at, size}
-use Rattle.layout.specs.Channels.{Channel, channel_fields, channel_numbers, channel_from, channel, channels_in, channels, channel_bytes, channels_bytes, ChannelIs, ChannelsAre, ChannelGood, AllGood, behind_name, behind_channel, channel_questions, channels_questions}
+use Rattle.layout.specs.Names.{NonZero, before_zero, channel_name}
+use Rattle.layout.specs.Fields.{fields, field_bytes, Numbers, field_questions, numbers_at, size}
+use Rattle.layout.specs.Channels.{Channel, channel_fields, channel_numbers, channel_from, channel, channels_in, channel_bytes, channels_bytes, ChannelIs, ChannelsAre, ChannelGood, AllGood, behind_name, behind_channel, channel_questions, channels_questions}
 use Rattle.layout.proofs.Reading.{Sees, sees_next, sees_asked, sees_last, no_more, all_then, Asks, asks_next, asks_asked}
 use Rattle.layout.proofs.Fielded.{fields_sees, fields_back, fields_written, fields_asks}
 

@@ -1,6 +1,6 @@
 -- What a load makes of a kind and bytes: what they mean, or the first question answered no.
-use Rattle.std.proofs.Common.{◌≡◌, ℕ, zero, suc, ◌+◌, ◌*◌, ◌<◌, ◌≤◌, Bool, true, false, cond, leb, ◌⊎◌, List, [], ◌∷◌, ◌++◌, length, get_or, take, drop, Some, None, Ok, Err, Option, Result, sym, refl, ap, ◌∙◌, subst, inl, inr, append_assoc, append-nil, arith, length-append}
-use Rattle.std.proofs.lemmas.Bool.{leb-true, leb-false, le-leb, both_ways}
+use Rattle.std.proofs.Common.{◌≡◌, ℕ, suc, ◌*◌, ◌<◌, ◌≤◌, Bool, true, false, List, [], ◌∷◌, ◌++◌, length, get_or, take, drop, Some, None, Ok, Err, Option, Result, sym, refl, ap, ◌∙◌, subst, inl, append_assoc, append-nil, arith, length-append}
+use Rattle.std.proofs.lemmas.Bool.{both_ways}
 use Rattle.layout.specs.Numbers.{Bytes, whole, range, low_first}
 use Rattle.layout.specs.Questions.{Answer, next, when_ok, front, asked, part}
 use Rattle.layout.specs.Questions.{Question, FirstNo, refusal}
@@ -13,7 +13,7 @@ use Rattle.layout.specs.Channels as channels
 use Rattle.layout.specs.Channels.{Channel}
 use Rattle.layout.specs.Texts as texts
 use Rattle.layout.specs.Values.{Form, Numbers, Bounds, Time, Preview, Text, Texts, Hinted, Channels, Custom, kind_of, bytes_of, Shaped, Good}
-use Rattle.layout.specs.Decode.{told, sides, pixels, picture, hinted, texts_form, box_form, known, by_kind, read_value, time_valid, decode, Begins, Is, Means, questions, questions_by, decode_questions, Last, DecodeMeans, DecodeAsks, DecodeBack}
+use Rattle.layout.specs.Decode.{told, sides, pixels, picture, texts_form, box_form, known, by_kind, read_value, time_valid, decode, Begins, Is, Means, questions, questions_by, Last, DecodeMeans, DecodeAsks, DecodeBack}
 use Rattle.layout.proofs.Reading.{Sees, Exactly, part_sees, part_back, no_more, all_then, Asks, part_asks}
 use Rattle.layout.proofs.Fielded.{fields_sees, fields_back, fields_written, fields_asks}
 use Rattle.layout.proofs.Kinded.{own, kind_name, Has}

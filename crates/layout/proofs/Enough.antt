@@ -1,5 +1,5 @@
 -- The bound on how many texts or channels there are never decides, so that each reads as its first and then the others.
-use Rattle.std.proofs.Common.{◌≡◌, ℕ, zero, suc, ◌+◌, ◌<◌, ◌≤◌, Bool, true, false, cond, eqb, List, [], ◌∷◌, ◌++◌, length, Ok, Err, Result, sym, refl, ap, ◌∙◌, not-suc-le-zero, arith, length-append}
+use Rattle.std.proofs.Common.{◌≡◌, ℕ, zero, suc, ◌<◌, ◌≤◌, Bool, true, false, cond, eqb, List, [], ◌∷◌, ◌++◌, length, Ok, Err, sym, refl, ap, ◌∙◌, not-suc-le-zero, arith, length-append}
 use borrow.Author.Tests.{eqb-false}
 use Rattle.layout.specs.Numbers.{Bytes}
 use Rattle.layout.specs.Questions.{Answer, next}

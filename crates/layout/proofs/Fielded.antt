@@ -1,7 +1,7 @@
 -- The laws of numbers of fixed width.
-use Rattle.std.proofs.Common.{◌≡◌, ℕ, zero, suc, ◌+◌, ◌*◌, ◌/◌, ◌%◌, ◌<◌, ◌≤◌, Bool, true, false, cond, ◌⊎◌, List, [], ◌∷◌, ◌++◌, length, take, drop, replicate, Some, None, Ok, Err, Result, sym, refl, ap, ◌∙◌, subst, inl, inr, append_assoc, append-nil, arith, length-append, length-drop, drop-drop}
-use Rattle.layout.specs.Numbers.{Bytes, EachByte, whole, range, low_first}
-use Rattle.layout.specs.Questions.{Question, FirstNo, Answer, next, asked, part}
+use Rattle.std.proofs.Common.{◌≡◌, ℕ, zero, suc, ◌≤◌, Bool, true, List, [], ◌∷◌, ◌++◌, length, take, drop, replicate, Some, Ok, Err, sym, refl, ap, ◌∙◌, subst, inl, inr, append_assoc, arith, length-append, length-drop, drop-drop}
+use Rattle.layout.specs.Numbers.{Bytes, EachByte, whole, low_first}
+use Rattle.layout.specs.Questions.{FirstNo, Answer, next, asked, part}
 use Rattle.layout.specs.Fields.{Field, i32, integers, fields, field_bytes, Numbers, Held, field_questions, numbers_at, size, word, words, FieldsStand}
 use Rattle.layout.proofs.Numbered.{length-low_first, bytes_low_first, whole-low_first, low_first-whole, bytes_append, bytes_front, bytes_behind}
 use Rattle.layout.proofs.Reading.{Sees, sees_next, sees_asked, sees_last, Exactly, part_sees, part_back, Asks, asks_next, asks_asked, part_asks}

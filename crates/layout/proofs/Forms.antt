@@ -1,17 +1,16 @@
 -- What a load makes is a form that a header can hold, and each such form can be put.
-use Rattle.std.proofs.Common.{◌≡◌, ℕ, zero, suc, ◌+◌, ◌*◌, ◌/◌, ◌%◌, ◌<◌, ◌≤◌, Bool, true, false, cond, leb, ◌⊎◌, List, [], ◌∷◌, ◌++◌, length, get_or, Some, None, Ok, Err, Option, Result, sym, refl, ap, ◌∙◌, subst, inl, inr, append_assoc, arith, lit≤, length-append}
+use Rattle.std.proofs.Common.{◌≡◌, ℕ, ◌+◌, ◌<◌, ◌≤◌, true, List, [], ◌∷◌, ◌++◌, length, sym, refl, ap, ◌∙◌, subst, arith, lit≤, length-append}
 use Rattle.layout.specs.Numbers.{Bytes, EachByte, whole, range, low_first}
-use Rattle.layout.specs.Names.{NonZero, Named}
+use Rattle.layout.specs.Names.{Named}
 use Rattle.layout.specs.Fields as fields
 use Rattle.layout.specs.Fields.{Field, u32, i32, reserved, up_to, Held, field_bytes}
-use Rattle.layout.specs.Kinds.{Fixed, box2f, int, float, double, rational, v2i, v2f, v3i, v3f, m33f, m44f, chromaticities, keycode, compression, envmap, line_order, tiledesc, Kind, fixed, box2i, timecode, preview, string, stringvector, bytes, chlist, name_of, fields_of, kind_named}
-use Rattle.layout.specs.Boxes.{Box, box_good, corners, box_from, corner_numbers}
-use Rattle.layout.specs.TimeCodes.{TimeCode, valid, time_fields, time_from, time_numbers, Sized}
-use Rattle.layout.specs.Channels as channels
+use Rattle.layout.specs.Kinds.{box2f, int, float, double, rational, v2i, v2f, v3i, v3f, m33f, m44f, chromaticities, keycode, compression, envmap, line_order, tiledesc, Kind, fixed, box2i, timecode, preview, string, stringvector, bytes, chlist, name_of, fields_of}
+use Rattle.layout.specs.Boxes.{corners, corner_numbers}
+use Rattle.layout.specs.TimeCodes.{time_fields, time_numbers, Sized}
 use Rattle.layout.specs.Channels.{Channel, channel_fields, channel_numbers, channel_bytes, channels_bytes, ChannelIs, ChannelsAre, ChannelGood, AllGood}
 use Rattle.layout.specs.Texts as texts
 use Rattle.layout.specs.Values.{Form, Numbers, Bounds, Time, Preview, Text, Texts, Hinted, Channels, Custom, kind_of, bytes_of, Shaped, Good}
-use Rattle.layout.specs.Decode.{sides, Is, Means, time_valid, decode}
+use Rattle.layout.specs.Decode.{sides, Is, Means, time_valid}
 use Rattle.layout.specs.Laws.{DecodeGood, GoodKind}
 use Rattle.layout.proofs.Numbered.{length-low_first, whole_fits, bytes_front, bytes_behind}
 use Rattle.layout.proofs.Putted.{Fair, AllFair, fair, fair_all, fair_i32, fair_up_to}

@@ -1,7 +1,7 @@
 -- The laws of key codes, from those of fields.
 use Rattle.std.proofs.Common.{◌≡◌, ℕ, ◌≤◌, List, [], ◌∷◌, ◌++◌, length, Ok, Err, refl, ap, ◌∙◌, subst}
 use Rattle.layout.specs.Numbers.{Bytes, EachByte}
-use Rattle.layout.specs.Fields.{Field, i32, fields, field_bytes, Numbers, Held, size}
+use Rattle.layout.specs.Fields.{fields, Held}
 use Rattle.layout.specs.KeyCodes.{key_code, key_code_bytes, KeyCodesStand}
 use Rattle.layout.proofs.Numbered.{bytes_front}
 use Rattle.layout.proofs.Fielded.{Whole, fields_back, fields_written, fields_sized, fields_reads, fields_same, fields_there}

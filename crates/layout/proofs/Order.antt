@@ -1,5 +1,5 @@
 -- The order of names is total: laws of `cmp`.
-use Rattle.std.proofs.Common.{◌≡◌, ℕ, zero, suc, ◌<◌, ◌⊎◌, List, [], ◌∷◌, ◌++◌, sym, refl, ap, ◌∙◌, subst, ap₂, inl, inr, arith}
+use Rattle.std.proofs.Common.{◌≡◌, ℕ, ◌<◌, ◌⊎◌, [], ◌∷◌, ◌++◌, sym, refl, ap, ◌∙◌, subst, ap₂, inl, inr, arith}
 use Prim.Native.Nat.{compare, Ordering}
 use Rattle.layout.specs.Numbers.{Bytes}
 use Rattle.layout.specs.Names.{and_then, flip, cmp, Precedes, by_byte, by_extension, NamesOrdered}

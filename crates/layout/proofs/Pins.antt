@@ -1,19 +1,17 @@
 -- Words, floats and boxes in other words.
-use Rattle.std.proofs.Common.{◌≡◌, ℕ, zero, suc, ◌+◌, ◌-◌, ◌*◌, ◌/◌, ◌%◌, ◌<◌, ◌≤◌, Bool, true, false, cond, ◌&&◌, ltb, leb, ◌⊎◌, List, [], ◌∷◌, ◌++◌, length, ℤ, pos, negsuc, ◌+ℤ◌, ◌-ℤ◌, nat_abs, ◌≤ℤ◌, Ok, Err, sym, refl, ap, ◌∙◌, subst, inl, inr, arith, length-append}
-use lib.Signed.{le_z, lt_z}
+use Rattle.std.proofs.Common.{◌≡◌, ℕ, suc, ◌-◌, ◌%◌, ◌≤◌, Bool, true, false, cond, ltb, ◌⊎◌, List, [], ◌∷◌, ◌++◌, length, ℤ, pos, negsuc, ◌+ℤ◌, ◌-ℤ◌, nat_abs, ◌≤ℤ◌, refl, ◌∙◌, inl, inr, arith, length-append}
+use lib.Signed.{le_z}
 use Rattle.std.specs.Int.{int_min, int_max}
 use Rattle.std.proofs.lemmas.Int.{ints, clamps}
 use Rattle.std.proofs.lemmas.Bool.Decides.{nat_tests}
-use Rattle.std.proofs.lemmas.Bool.{leb-true, leb-false, le-leb}
-use Rattle.layout.specs.Numbers.{Bytes, whole, low_first}
-use Rattle.layout.specs.Questions.{part}
-use Rattle.layout.specs.Floats.{one_nan, single, double}
-use Rattle.layout.specs.Boxes.{in_range, last_of, axis_good, axis}
+use Rattle.std.proofs.lemmas.Bool.{leb-true, leb-false}
+use Rattle.layout.specs.Numbers.{low_first}
+use Rattle.layout.specs.Boxes.{last_of, axis}
 use Rattle.layout.specs.Fields.{Field, Held, field_bytes, size}
 use Rattle.layout.specs.TimeCodes.{time_numbers}
 use Rattle.layout.specs.Kinds.{Fixed, box2f, int, float, rational, v2i, v2f, v3i, v3f, m33f, m44f, chromaticities, keycode, compression, envmap, line_order, tiledesc, fields_of}
 use Rattle.layout.specs.Kinds.{double as double_kind}
-use Rattle.layout.specs.Values.{Form, Numbers, Bounds, Time, Preview, bytes_of, Shaped, Good}
+use Rattle.layout.specs.Values.{bytes_of, Shaped}
 use Rattle.layout.specs.Laws.{size_of, Sizes, WordsRead, NotANumber, FloatsOne, BoxesSpan}
 use Rattle.layout.proofs.Numbered.{length-low_first}
 use Rattle.layout.proofs.Reading.{part_back}

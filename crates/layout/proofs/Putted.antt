@@ -1,21 +1,20 @@
 -- The questions that put asks, and what a value that passes them loads as.
-use Rattle.std.proofs.Common.{◌≡◌, ℕ, zero, suc, ◌+◌, ◌*◌, ◌/◌, ◌%◌, ◌<◌, ◌≤◌, Bool, true, false, cond, not, ◌&&◌, eqb, ltb, leb, ◌⊎◌, List, [], ◌∷◌, ◌++◌, length, get_or, replicate, Some, None, Option, sym, refl, ap, ◌∙◌, subst, inl, inr, arith}
-use Rattle.std.proofs.lemmas.Bool.{leb-true, le-leb, eqb-true, eqb-false, eq-eqb, ne_eqb, and_parts, and_from, not-true, not_from_false, cases_Bool, both_ways}
+use Rattle.std.proofs.Common.{◌≡◌, ℕ, zero, suc, ◌*◌, ◌%◌, ◌<◌, ◌≤◌, Bool, true, false, cond, not, ◌&&◌, eqb, ltb, leb, ◌⊎◌, List, [], ◌∷◌, length, replicate, Some, None, Option, refl, ap, ◌∙◌, subst, inl, inr, arith}
+use Rattle.std.proofs.lemmas.Bool.{leb-true, le-leb, eqb-true, eqb-false, eq-eqb, ne_eqb, and_parts, and_from, not-true, not_from_false, both_ways}
 use Rattle.std.specs.Str.{bytes_eq}
 use Rattle.std.proofs.lemmas.Slice.Eq.{bytes_eq-Decides}
 use Rattle.layout.specs.Numbers.{Bytes, range}
 use Rattle.layout.specs.Questions.{Question, FirstNo}
-use Rattle.layout.specs.Floats.{one_nan, single, double as double_bits}
+use Rattle.layout.specs.Floats.{one_nan}
 use Rattle.layout.specs.Fields.{Field, i32, u32, f32, f64, up_to, Held}
 use Rattle.layout.specs.Names.{NonZero, Named, non_zero, named}
 use Rattle.layout.specs.Records.{RecordsAsk}
-use Rattle.layout.specs.Enumerations.{Compression, Uncompressed, Rle, Zip1, Zip16, Piz, Pxr24, B44, B44a, Dwaa, Dwab, Htj2k32, Htj2k256, Envmap, LatitudeLongitude, Cube, LineOrder, Increasing, Decreasing, Unspecified, SampleType, U32, F16, F32, LevelMode, Singular, MipMap, RipMap, RoundingMode, Down, Up, compressions, envmaps, line_orders, sample_types, level_modes, rounding_modes, nth, compression_code, envmap_code, line_order_code, sample_code, level_code, rounding_code, mode_byte, Coded, EnumerationsCoded}
+use Rattle.layout.specs.Enumerations.{Compression, Uncompressed, Rle, Zip1, Zip16, Piz, Pxr24, B44, B44a, Dwaa, Dwab, Htj2k32, Htj2k256, Envmap, LatitudeLongitude, Cube, LineOrder, Increasing, Decreasing, Unspecified, SampleType, U32, F16, F32, LevelMode, Singular, MipMap, RipMap, RoundingMode, Down, Up, compressions, envmaps, line_orders, sample_types, level_modes, rounding_modes, compression_code, envmap_code, line_order_code, sample_code, level_code, rounding_code, mode_byte, Coded, EnumerationsCoded}
 use Rattle.layout.specs.Kinds.{Fixed, box2f, int, float, double, rational, v2i, v2f, v3i, v3f, m33f, m44f, chromaticities, keycode, compression, envmap, line_order, tiledesc, Kind, kind_named, mode, fields_of}
-use Rattle.layout.specs.Boxes.{Box, box_good}
-use Rattle.layout.specs.TimeCodes.{TimeCode, valid, Sized}
-use Rattle.layout.specs.Channels.{Channel, ChannelGood, AllGood}
-use Rattle.layout.specs.Values.{Form, Value, numbers, compressed, tiles, block, bounds, time, picture, text, texts, hinted, channels, custom, GivenChannel, given, all_given, channels_given, loaded_form, bytes_of, kept, Shaped, Good}
-use Rattle.layout.specs.Puts.{TypedNumbers, TypedChannels, TypedLevel, Typed, There, AllThere, NameThere, AllNamed, AllSampled, small, value_questions, there, all_there, name_there, all_named, all_sampled, unknown, ask, ask_small, value_ask, PutAsks, PutGood, some_texts, some_channels, case_of, numbers_value, as_value, Changed, PutExact}
+use Rattle.layout.specs.TimeCodes.{valid}
+use Rattle.layout.specs.Channels.{ChannelGood, AllGood}
+use Rattle.layout.specs.Values.{Value, numbers, compressed, tiles, block, bounds, time, picture, text, texts, hinted, channels, custom, GivenChannel, given, all_given, channels_given, loaded_form, bytes_of, kept, Shaped, Good}
+use Rattle.layout.specs.Puts.{TypedNumbers, TypedChannels, Typed, There, AllThere, NameThere, AllNamed, AllSampled, small, value_questions, there, all_there, name_there, all_named, all_sampled, unknown, ask, ask_small, value_ask, PutAsks, PutGood, some_texts, some_channels, case_of, numbers_value, as_value, Changed, PutExact}
 
 -- ---- each test decides its question
 

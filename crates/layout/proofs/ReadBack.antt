@@ -1,11 +1,9 @@
 -- What is written reads back.
-use Rattle.std.proofs.Common.{◌≡◌, ℕ, ◌≤◌, Bool, true, false, cond, List, [], ◌∷◌, ◌++◌, length, Some, None, Ok, Err, Result, sym, refl, ap, ◌∙◌, subst, append-nil, arith}
-use Rattle.layout.specs.Numbers.{Bytes, EachByte}
+use Rattle.std.proofs.Common.{◌≡◌, ℕ, Bool, true, [], None, Ok, Result, sym, refl, ap, ◌∙◌, subst, append-nil}
 use Rattle.layout.specs.Questions.{FirstNo, when_ok, asked}
-use Rattle.layout.specs.Names.{Named}
 use Rattle.layout.specs.Values.{Form, Numbers, Bounds, Time, Preview, Text, Texts, Hinted, Channels, Custom, kind_of, bytes_of, loaded_form, Good}
-use Rattle.layout.specs.Decode.{read_value, decode, time_valid, Last}
-use Rattle.layout.specs.Puts.{value_questions, value_ask, as_value}
+use Rattle.layout.specs.Decode.{decode, time_valid, Last}
+use Rattle.layout.specs.Puts.{value_questions, as_value}
 use Rattle.layout.specs.Laws.{ValuesReadBack, ReadWritesBack}
 use Rattle.layout.proofs.Putted.{put_asks_lem, put_good}
 use Rattle.layout.proofs.Forms.{decode_good}

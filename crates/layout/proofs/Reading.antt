@@ -1,6 +1,6 @@
 -- How readers one after the other are proved: what they see, and what they ask.
-use Rattle.std.proofs.Common.{◌≡◌, ℕ, ◌≤◌, Bool, true, false, cond, leb, ◌⊎◌, List, [], ◌∷◌, ◌++◌, length, take, drop, Some, None, Ok, Err, Option, Result, sym, refl, ap, ◌∙◌, subst, inl, inr, append_assoc, arith, length-append, take-append-drop, length-take, length-take-le, take_at, drop_at}
-use Rattle.std.proofs.lemmas.Bool.{leb-true, leb-false, le-leb, both_ways}
+use Rattle.std.proofs.Common.{◌≡◌, ℕ, ◌≤◌, Bool, true, false, leb, List, [], ◌∷◌, ◌++◌, length, take, drop, Some, None, Ok, Err, Option, sym, refl, ap, ◌∙◌, subst, inl, inr, append_assoc, arith, length-append, take-append-drop, length-take-le, take_at, drop_at}
+use Rattle.std.proofs.lemmas.Bool.{leb-true, le-leb, both_ways}
 use Rattle.layout.specs.Numbers.{Bytes}
 use Rattle.layout.specs.Questions.{Question, FirstNo, Answer, next, asked, part}
 

@@ -1,12 +1,12 @@
 -- What is read next in a source is what stands there; and a record is read back.
-use Rattle.std.proofs.Common.{◌≡◌, ℕ, zero, suc, ◌+◌, ◌*◌, ◌/◌, ◌%◌, ◌<◌, ◌≤◌, Bool, true, false, cond, eqb, leb, ◌⊎◌, List, [], ◌∷◌, ◌++◌, length, take, drop, Some, None, Option, sym, refl, ap, ◌∙◌, subst, ap₂, inl, inr, append_assoc, arith, length-append}
+use Rattle.std.proofs.Common.{◌≡◌, ℕ, zero, suc, ◌+◌, ◌/◌, ◌%◌, ◌<◌, ◌≤◌, Bool, true, false, cond, eqb, leb, [], ◌∷◌, ◌++◌, length, take, drop, Some, None, Option, sym, refl, ap, ◌∙◌, subst, ap₂, inl, inr, append_assoc, arith, length-append}
 use Rattle.std.proofs.lemmas.Bool.{leb-true, leb-false, eqb-true, eqb-false, le-leb, lt-leb, ne_eqb}
 use Rattle.std.proofs.lemmas.List.{take-append-drop, length-take-le, take_at, drop_at}
 use Rattle.layout.specs.Numbers.{Bytes, EachByte, low_first}
 use Rattle.layout.specs.Names.{NonZero}
-use Rattle.layout.specs.Items.{Took, took, too_long, ran_out, in_front, zero_end, Head, closing, head, stuck, size_head, after_kind, after_name, after_start, read_head, Item, ended, item, broken, stop_number, four_whole, value_item, on_head, read_item, NamedBy, StopsWith, Reads, RunsOut, in_name, in_kind, in_size, in_value, Decides, long_name, no_kind, long_kind, negative, too_large, laid, ItemsRead}
+use Rattle.layout.specs.Items.{Took, took, too_long, ran_out, in_front, zero_end, Head, head, stuck, size_head, after_kind, after_name, after_start, read_head, Item, ended, item, broken, stop_number, four_whole, value_item, on_head, read_item, NamedBy, StopsWith, Reads, RunsOut, in_name, in_kind, in_size, in_value, Decides, long_name, no_kind, long_kind, negative, too_large, laid, ItemsRead}
 use Rattle.layout.specs.Names.{Named}
-use Rattle.layout.specs.Values.{Form, kind_of, bytes_of, Good}
+use Rattle.layout.specs.Values.{Form, kind_of, bytes_of}
 use Rattle.layout.specs.Records.{record_bytes}
 use Rattle.layout.specs.Laws.{RecordsStand}
 use Rattle.layout.proofs.Numbered.{bytes_front, bytes_behind, rest_bytes}

@@ -1,6 +1,6 @@
 -- A word that is packed by a table has each number at its place.
-use Rattle.std.proofs.Common.{◌≡◌, ℕ, zero, suc, ◌+◌, ◌*◌, ◌/◌, ◌%◌, ◌^◌, ◌<◌, List, [], ◌∷◌, length, sym, refl, ap, ◌∙◌, le_of_suc-le-suc, not-suc-le-zero, mul_comm, add_comm, div-one, arith}
-use Rattle.std.proofs.lemmas.Nat.{shr-shr, div-mul-add, mod-mul-add, pow_pos}
+use Rattle.std.proofs.Common.{◌≡◌, ℕ, zero, suc, ◌+◌, ◌*◌, ◌/◌, ◌%◌, ◌^◌, ◌<◌, List, [], ◌∷◌, length, sym, ap, ◌∙◌, le_of_suc-le-suc, not-suc-le-zero, mul_comm, add_comm, div-one}
+use Rattle.std.proofs.lemmas.Nat.{shr-shr, div-mul-add, mod-mul-add}
 use Rattle.layout.specs.TimeCodes.{field, pack}
 
 abbrev pub Fit : List (ℕ × ℕ) → Type 0

@@ -1,19 +1,18 @@
 -- Each form that a header can hold can be put, and the numbers of the questions.
-use Rattle.std.proofs.Common.{◌≡◌, ℕ, zero, suc, ◌+◌, ◌-◌, ◌*◌, ◌/◌, ◌%◌, ◌<◌, ◌≤◌, Bool, true, false, cond, ◌&&◌, ◌||◌, eqb, leb, ◌⊎◌, List, [], ◌∷◌, ◌++◌, length, get_or, take, drop, replicate, Some, None, Ok, Err, Option, Result, sym, refl, ap, ◌∙◌, subst, inl, inr, arith}
+use Rattle.std.proofs.Common.{◌≡◌, ℕ, zero, suc, ◌+◌, ◌-◌, ◌/◌, ◌%◌, ◌<◌, ◌≤◌, Bool, true, false, cond, ◌&&◌, eqb, leb, ◌⊎◌, List, [], ◌∷◌, ◌++◌, length, get_or, take, drop, replicate, Some, None, Option, Result, sym, refl, ap, subst, inl, inr, arith}
 use Rattle.std.proofs.lemmas.Bool.{leb-true, or_cases, and_parts}
 use Rattle.layout.specs.Numbers.{Bytes, whole, range}
 use Rattle.layout.specs.Questions.{Question, FirstNo, refusal}
-use Rattle.layout.specs.Fields.{Field, i32, u32, f32, f64, up_to, Held, field_questions}
-use Rattle.layout.specs.Names.{Named}
-use Rattle.layout.specs.Enumerations.{Compression, Uncompressed, LevelMode, Singular, RoundingMode, Down, compressions, level_modes, rounding_modes, nth, compression_code, mode_byte}
-use Rattle.layout.specs.Kinds.{Fixed, box2f, int, float, double, rational, v2i, v2f, v3i, v3f, m33f, m44f, chromaticities, keycode, compression, envmap, line_order, tiledesc, Kind, fixed, box2i, timecode, preview, string, stringvector, bytes, chlist, is_mode, mode, name_of, fields_of, kind_named}
+use Rattle.layout.specs.Fields.{Field, i32, u32, f32, f64, Held, field_questions}
+use Rattle.layout.specs.Enumerations.{Uncompressed, Singular, Down, compressions, level_modes, rounding_modes, nth, compression_code, mode_byte}
+use Rattle.layout.specs.Kinds.{Fixed, box2f, int, float, double, rational, v2i, v2f, v3i, v3f, m33f, m44f, chromaticities, keycode, compression, envmap, line_order, tiledesc, Kind, fixed, box2i, timecode, preview, string, stringvector, bytes, chlist, is_mode, fields_of, kind_named}
 use Rattle.layout.specs.Channels as channels
 use Rattle.layout.specs.Channels.{Channel, ChannelGood, AllGood, channel_fields}
 use Rattle.layout.specs.Texts as texts
 use Rattle.layout.specs.Values.{Form, Numbers, Bounds, Time, Preview, Text, Texts, Hinted, Channels, Custom, Value, numbers, compressed, tiles, GivenChannel, all_given, channels_given, kept, loaded_form, bytes_of, Shaped, Good}
 use Rattle.layout.specs.Values as values
-use Rattle.layout.specs.Decode.{decode, questions, questions_by, decode_questions}
-use Rattle.layout.specs.Puts.{TypedNumbers, TypedChannels, Typed, There, AllThere, NameThere, AllNamed, AllSampled, small, value_questions, value_ask, some_texts, some_channels, case_of, numbers_value, as_value}
+use Rattle.layout.specs.Decode.{questions, questions_by, decode_questions}
+use Rattle.layout.specs.Puts.{TypedNumbers, TypedChannels, Typed, AllThere, AllNamed, AllSampled, value_questions, value_ask, some_texts, some_channels, case_of, numbers_value, as_value}
 use Rattle.layout.specs.Laws.{PutTakes, PutNumbers, DecodeNumbers}
 use Rattle.layout.proofs.Putted.{put_asks_lem}
 use Rattle.layout.proofs.Decoded.{decode_asks_lem}

@@ -1,12 +1,12 @@
 -- The laws of texts with their lengths.
-use Rattle.std.proofs.Common.{◌≡◌, ℕ, zero, suc, ◌+◌, ◌*◌, ◌/◌, ◌%◌, ◌<◌, ◌≤◌, Bool, true, false, cond, leb, ◌⊎◌, List, [], ◌∷◌, ◌++◌, length, take, drop, Some, None, Ok, Err, Option, Result, sym, refl, ap, ◌∙◌, subst, inl, inr, append_assoc, append-nil, le_of_suc-le-suc, not-suc-le-zero, arith, length-append}
-use Rattle.std.proofs.lemmas.Bool.{leb-true, leb-false, le-leb, both_ways}
+use Rattle.std.proofs.Common.{◌≡◌, ℕ, zero, suc, ◌<◌, ◌≤◌, Bool, true, leb, List, [], ◌∷◌, ◌++◌, length, take, drop, Ok, Err, Option, Result, sym, refl, ap, ◌∙◌, subst, inl, append_assoc, not-suc-le-zero, arith, length-append}
+use Rattle.std.proofs.lemmas.Bool.{leb-true, le-leb}
 use Rattle.layout.specs.Numbers.{Bytes, whole, range, low_first}
 use Rattle.layout.specs.Questions.{Answer, next, asked, part}
 use Rattle.layout.specs.Questions.{Question, FirstNo, refusal}
-use Rattle.layout.specs.Texts.{counted, onto, go_on, texts_in, texts, counted_bytes, texts_bytes, CountedIs, TextsAre, counted_questions, texts_questions}
+use Rattle.layout.specs.Texts.{counted, onto, go_on, texts_in, counted_bytes, texts_bytes, CountedIs, TextsAre, counted_questions, texts_questions}
 use Rattle.layout.proofs.Numbered.{length-low_first, whole-low_first}
-use Rattle.layout.proofs.Reading.{Sees, sees_next, sees_asked, sees_last, Exactly, part_sees, part_back, no_more, all_then, Asks, asks_next, asks_asked, part_asks}
+use Rattle.layout.proofs.Reading.{Sees, sees_next, sees_asked, Exactly, part_sees, part_back, no_more, all_then, Asks, asks_next, asks_asked, part_asks}
 
 pub counted_sees : (most size : ℕ) (xs : Bytes) → Sees (CountedIs most size) xs (counted most size xs)
 unfolding counted CountedIs

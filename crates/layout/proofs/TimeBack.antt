@@ -1,8 +1,8 @@
 -- A time code that is packed is unpacked as it was.
-use Rattle.std.proofs.Common.{◌≡◌, ℕ, ◌+◌, ◌*◌, ◌/◌, ◌%◌, ◌^◌, ◌<◌, ◌≤◌, min, Bool, true, false, cond, ◌&&◌, eqb, leb, List, [], ◌∷◌, length, get_or, sym, refl, ap, ◌∙◌, mod-lt, div-add-mod', arith}
+use Rattle.std.proofs.Common.{◌≡◌, ℕ, ◌+◌, ◌*◌, ◌/◌, ◌%◌, ◌<◌, ◌≤◌, min, Bool, true, false, eqb, List, [], ◌∷◌, length, get_or, sym, ap, ◌∙◌, div-add-mod', arith}
 use Rattle.std.proofs.lemmas.Nat.{div_below, mod_below}
 use Rattle.std.proofs.lemmas.Bool.Decides.{nat_tests}
-use Rattle.layout.specs.TimeCodes.{TimeCode, field, bit, digits, groups_of, time_code, mark, few, valid, pack, time_table, time_word, user_table, user_word, TimeCodesReadBack}
+use Rattle.layout.specs.TimeCodes.{TimeCode, field, bit, digits, groups_of, mark, few, valid, time_table, time_word, user_table, user_word, TimeCodesReadBack}
 use Rattle.layout.proofs.Tables.{Fit, field_pack}
 use Rattle.layout.proofs.Lists.{three, eight}
 

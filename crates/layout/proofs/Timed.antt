@@ -1,11 +1,11 @@
 -- The two words of a time code fit their fields, and what is unpacked has its sizes.
-use Rattle.std.proofs.Common.{◌≡◌, ℕ, ◌+◌, ◌*◌, ◌/◌, ◌%◌, ◌^◌, ◌<◌, ◌≤◌, min, Bool, true, false, ◌&&◌, leb, List, [], ◌∷◌, length, get_or, sym, refl, ap, ◌∙◌, subst, arith}
+use Rattle.std.proofs.Common.{◌≡◌, ℕ, ◌/◌, ◌<◌, ◌≤◌, min, true, false, List, [], ◌∷◌, length, get_or, refl, subst, arith}
 use Rattle.std.proofs.lemmas.Bool.Decides.{nat_tests}
 use Rattle.std.proofs.lemmas.Nat.{mod_below}
 use Rattle.layout.specs.Numbers.{range}
 use Rattle.layout.specs.Fields.{Held}
-use Rattle.layout.specs.TimeCodes.{TimeCode, valid, few, pack, mark, time_table, time_word, user_word, user_table, time_fields, time_from, time_numbers, time_code, Sized, TimeCodesPacked}
-use Rattle.layout.proofs.Lists.{three, eight}
+use Rattle.layout.specs.TimeCodes.{TimeCode, valid, pack, time_table, time_word, user_word, user_table, time_fields, time_from, time_numbers, Sized, TimeCodesPacked}
+use Rattle.layout.proofs.Lists.{eight}
 use Rattle.layout.proofs.Tables.{Fit, field_pack}
 use Rattle.layout.proofs.TimeBack.{time_codes_read_back_lem, mark_small, time_fit, fit_user}
 

@@ -1,9 +1,9 @@
 -- Boxes of integers: a position, the least corner, and two sides.
-use Rattle.std.specs.Prelude.{◌≡◌, ℕ, ◌+◌, ◌-◌, ◌<◌, ◌≤◌, Bool, true, false, cond, ◌&&◌, List, [], ◌∷◌, ◌++◌, replicate, ℤ, pos, negsuc, ◌+ℤ◌, ◌-ℤ◌, ◌≤ℤ◌, Ok, Err, Result, int_le, nat_lt, slice_index, unsigned_abs}
+use Rattle.std.specs.Prelude.{ℕ, ◌-◌, Bool, ◌&&◌, List, [], ◌∷◌, replicate, ℤ, pos, negsuc, ◌+ℤ◌, ◌-ℤ◌, Result, int_le, nat_lt, slice_index, unsigned_abs}
 use Rattle.std.proofs.Common.{to_z, of_z}
 use Rattle.std.specs.Int.{int_min, int_max, w32}
 use Rattle.layout.specs.Numbers.{Bytes}
-use Rattle.layout.specs.Questions.{when_ok, asked}
+use Rattle.layout.specs.Questions.{asked}
 use Rattle.layout.specs.Fields.{Field, i32, field_bytes}
 
 pub record Box : Type 0 where

@@ -1,10 +1,10 @@
 -- Channels and their lists.
-use Rattle.std.specs.Prelude.{◌≡◌, ℕ, zero, suc, ◌+◌, ◌<◌, ◌≤◌, Bool, true, false, cond, List, [], ◌∷◌, ◌++◌, length, drop, Ok, Err, Result, ◌==◌, slice_index}
+use Rattle.std.specs.Prelude.{◌≡◌, ℕ, zero, suc, ◌<◌, ◌≤◌, cond, List, [], ◌∷◌, ◌++◌, length, drop, Ok, Err, ◌==◌, slice_index}
 use Rattle.layout.specs.Numbers.{Bytes}
-use Rattle.layout.specs.Questions.{Answer, next, asked}
+use Rattle.layout.specs.Questions.{Answer, next}
 use Rattle.layout.specs.Questions.{Question}
 use Rattle.layout.specs.Fields.{Field, reserved, up_to, fields, field_bytes, Numbers, Held, field_questions, size}
-use Rattle.layout.specs.Names.{NonZero, Named, before_zero, channel_name}
+use Rattle.layout.specs.Names.{Named, before_zero, channel_name}
 
 -- a channel: its name, the code of its sample type, its linearity, and its sampling on both axes
 pub record Channel : Type 0 where

@@ -1,14 +1,13 @@
 -- What a load makes of a kind and a value's bytes, what the bytes mean by the layout, and the questions in between.
-use Rattle.std.specs.Prelude.{◌≡◌, ℕ, suc, ◌+◌, ◌*◌, ◌<◌, ◌≤◌, Bool, true, false, cond, ◌&&◌, List, [], ◌∷◌, ◌++◌, length, drop, Some, None, Ok, Err, Option, Result, slice_index}
-use Rattle.layout.specs.Numbers as numbers
+use Rattle.std.specs.Prelude.{◌≡◌, ℕ, suc, ◌*◌, ◌≤◌, Bool, true, List, [], ◌∷◌, ◌++◌, length, drop, Some, None, Ok, Err, Option, Result, slice_index}
 use Rattle.layout.specs.Numbers.{Bytes}
 use Rattle.layout.specs.Questions.{Answer, next, when_ok, front, asked, part}
 use Rattle.layout.specs.Questions.{Question, FirstNo, refusal}
 use Rattle.layout.specs.Fields as fields
 use Rattle.layout.specs.Fields.{Field, u32, field_questions, numbers_at}
-use Rattle.layout.specs.Kinds.{Fixed, Kind, fixed, box2i, timecode, preview, string, stringvector, bytes, chlist, name_of, kind_named, fields_of}
+use Rattle.layout.specs.Kinds.{Kind, fixed, box2i, timecode, preview, string, stringvector, bytes, chlist, kind_named, fields_of}
 use Rattle.layout.specs.Boxes.{Box, box_good, corners, box_from, make_box}
-use Rattle.layout.specs.TimeCodes.{TimeCode, valid, time_fields, time_from}
+use Rattle.layout.specs.TimeCodes.{valid, time_fields, time_from}
 use Rattle.layout.specs.Channels as channels
 use Rattle.layout.specs.Texts as texts
 use Rattle.layout.specs.Values.{Form, Numbers, Bounds, Time, Preview, Text, Texts, Hinted, Channels, Custom, kind_of, bytes_of, Good}

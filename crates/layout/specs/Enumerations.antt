@@ -1,5 +1,5 @@
 -- Values from a list, with their codes.
-use Rattle.std.specs.Prelude.{◌≡◌, ℕ, zero, suc, ◌+◌, ◌*◌, ◌≤◌, List, [], ◌∷◌, length, Some, None, codes, Option}
+use Rattle.std.specs.Prelude.{◌≡◌, ℕ, zero, suc, ◌+◌, ◌*◌, List, [], ◌∷◌, Some, None, codes, Option}
 use Rattle.layout.specs.Numbers.{Bytes}
 
 pub data Compression : Type 0 where

@@ -1,13 +1,11 @@
 -- The eight examples.
-use Rattle.std.specs.Prelude.{◌≡◌, ℕ, Bool, true, false, List, [], ◌∷◌, ◌++◌, length, ℤ, pos, negsuc, Some, None, Ok, Err, codes, Option}
-use Rattle.std.proofs.Common.{to_z, of_z}
-use Rattle.std.specs.Int.{w32}
+use Rattle.std.specs.Prelude.{◌≡◌, ℕ, false, [], ◌∷◌, ◌++◌, length, pos, negsuc, Some, None, Ok, Err, codes}
 use Rattle.layout.specs.Numbers.{low_first}
 use Rattle.layout.specs.Kinds.{int, name_of, timecode}
 use Rattle.layout.specs.Boxes.{Box, make_box}
 use Rattle.layout.specs.TimeCodes.{TimeCode}
 use Rattle.layout.specs.Enumerations.{F16, sample_code}
-use Rattle.layout.specs.Values.{Form, Numbers, Bounds, Time, Channels, Value, time, bytes_of}
+use Rattle.layout.specs.Values.{Numbers, Bounds, Time, Channels, time, bytes_of}
 use Rattle.layout.specs.Decode.{read_value}
 use Rattle.layout.specs.Puts.{value_ask}
 use Rattle.layout.specs.Records.{record_bytes, saved}

@@ -1,5 +1,5 @@
 -- Numbers of fixed width, one directly after the other: how they are laid out, read, written and asked about.
-use Rattle.std.specs.Prelude.{◌≡◌, ℕ, zero, suc, ◌+◌, ◌<◌, ◌≤◌, Bool, true, List, [], ◌∷◌, ◌++◌, length, take, drop, replicate, Some, None, Ok, Err, nat_le}
+use Rattle.std.specs.Prelude.{◌≡◌, ℕ, zero, suc, ◌+◌, ◌<◌, ◌≤◌, Bool, true, List, [], ◌∷◌, ◌++◌, length, take, drop, replicate, Some, Ok, Err, nat_le}
 use Rattle.layout.specs.Numbers.{Bytes, EachByte, whole, range, low_first}
 use Rattle.layout.specs.Questions.{Question, FirstNo, Answer, next, asked, part}
 use Rattle.layout.specs.Floats.{single, double}

@@ -1,8 +1,7 @@
 -- A film key code: seven integers.
-use Rattle.std.specs.Prelude.{◌≡◌, ℕ, List, [], ◌∷◌, ◌++◌, length, Some, Ok, Err}
+use Rattle.std.specs.Prelude.{◌≡◌, ℕ, List, [], ◌∷◌, ◌++◌, length, Ok}
 use Rattle.layout.specs.Numbers.{Bytes, EachByte}
-use Rattle.layout.specs.Questions.{FirstNo}
-use Rattle.layout.specs.Fields.{Field, i32, fields, field_bytes, Numbers, Held, field_questions}
+use Rattle.layout.specs.Fields.{Field, i32, fields, field_bytes, Held}
 
 -- film manufacturer code, film type, film roll prefix, count, perforation offset, perforations per frame, perforations per count
 abbrev pub key_code : List Field

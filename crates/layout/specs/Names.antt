@@ -1,5 +1,5 @@
 -- Names: 1 to 255 bytes, none zero, and their order: the first byte that differs decides, and a name precedes its extensions.
-use Rattle.std.specs.Prelude.{◌≡◌, ℕ, zero, suc, ◌+◌, ◌<◌, ◌≤◌, Bool, true, false, cond, not, ◌&&◌, ◌⊎◌, List, [], ◌∷◌, ◌++◌, length, drop, Ok, Err, Result, ◌==◌, ◌≢◌, nat_le}
+use Rattle.std.specs.Prelude.{◌≡◌, ℕ, suc, ◌<◌, ◌≤◌, Bool, true, cond, not, ◌&&◌, ◌⊎◌, [], ◌∷◌, ◌++◌, length, drop, ◌==◌, ◌≢◌, nat_le}
 use Prim.Native.Nat.{compare, Ordering}
 use Rattle.layout.specs.Numbers.{Bytes}
 use Rattle.layout.specs.Questions.{Answer, next, asked}

@@ -1,13 +1,13 @@
 -- The questions that put asks of a value, and the loaded form's three exceptions.
-use Rattle.std.specs.Prelude.{◌≡◌, ℕ, ◌+◌, ◌*◌, ◌/◌, ◌%◌, ◌<◌, ◌≤◌, Bool, true, false, cond, not, ◌&&◌, ◌⊎◌, List, [], ◌∷◌, ◌++◌, length, Some, None, Option, ◌==◌, ◌≢◌, nat_le, slice_index}
+use Rattle.std.specs.Prelude.{◌≡◌, ℕ, ◌*◌, ◌/◌, ◌%◌, ◌<◌, ◌≤◌, Bool, true, false, cond, ◌&&◌, ◌⊎◌, List, [], ◌∷◌, length, Some, None, Option, ◌==◌, ◌≢◌, nat_le, slice_index}
 use Rattle.layout.specs.Numbers.{Bytes, range}
 use Rattle.layout.specs.Questions.{Question, FirstNo}
 use Rattle.layout.specs.Fields.{Field}
 use Rattle.layout.specs.Names.{Named, named}
-use Rattle.layout.specs.Enumerations.{Compression, BlockType, LevelMode, RoundingMode, Uncompressed, Singular, Down, compressions, level_modes, rounding_modes, nth, compression_code}
+use Rattle.layout.specs.Enumerations.{Compression, Uncompressed, Singular, Down, compressions, level_modes, rounding_modes, nth, compression_code}
 use Rattle.layout.specs.Kinds.{Fixed, box2f, int, float, double, rational, v2i, v2f, v3i, v3f, m33f, m44f, chromaticities, keycode, compression, envmap, line_order, tiledesc, Kind, kind_named, fields_of}
-use Rattle.layout.specs.Boxes.{Box, box_good}
-use Rattle.layout.specs.TimeCodes.{TimeCode, valid, Sized}
+use Rattle.layout.specs.Boxes.{box_good}
+use Rattle.layout.specs.TimeCodes.{valid, Sized}
 use Rattle.layout.specs.Values.{Form, Value, numbers, compressed, tiles, block, bounds, time, picture, text, texts, hinted, channels, custom, GivenChannel, loaded_form, bytes_of, kept, Good}
 use Rattle.layout.specs.Channels.{Channel}
 use Rattle.layout.specs.Values as values

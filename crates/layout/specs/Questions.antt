@@ -1,5 +1,5 @@
 -- Questions: a number with what it asks. The number of the first that is answered no is the refusal.
-use Rattle.std.specs.Prelude.{◌≡◌, ℕ, ◌≤◌, Bool, cond, ◌⊎◌, List, [], ◌∷◌, length, take, drop, Some, None, Ok, Err, Option, Result, nat_le}
+use Rattle.std.specs.Prelude.{◌≡◌, ℕ, Bool, cond, ◌⊎◌, List, [], ◌∷◌, length, take, drop, Some, None, Ok, Err, Option, Result, nat_le}
 use Rattle.layout.specs.Numbers.{Bytes}
 
 abbrev pub Question : Type 1

@@ -1,7 +1,7 @@
 -- Bytes that are refused, one for each question of a field, and some that are just taken.
-use Rattle.std.specs.Prelude.{◌≡◌, ℕ, true, false, List, [], ◌∷◌, ◌++◌, replicate, pos, Some, None, Ok, Err, codes, Option}
+use Rattle.std.specs.Prelude.{◌≡◌, ℕ, false, [], ◌∷◌, ◌++◌, replicate, pos, Some, None, Ok, Err, codes, Option}
 use Rattle.layout.specs.Numbers.{Bytes, low_first}
-use Rattle.layout.specs.Kinds.{box2f, int, float, double, rational, v2i, v2f, v3i, v3f, m33f, m44f, chromaticities, keycode, compression, envmap, line_order, tiledesc, fields_of}
+use Rattle.layout.specs.Kinds.{box2f, int, float, double, rational, v2i, v2f, v3i, v3f, m33f, m44f, chromaticities, keycode, compression, tiledesc, fields_of}
 use Rattle.layout.specs.Enumerations.{Singular, Down}
 use Rattle.layout.specs.Values.{Numbers, Bounds, Preview, Text, Texts, Hinted, Channels, Custom, GivenChannel, kept, tiles, time, picture, text, texts, channels, custom}
 use Rattle.layout.specs.Puts.{value_ask}

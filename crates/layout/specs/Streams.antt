@@ -1,5 +1,5 @@
 -- What sources and sinks mean, without the code that makes them.
-use Rattle.std.specs.Prelude.{◌≡◌, ℕ, ◌-◌, ◌≤◌, Bool, true, ◌&&◌, List, [], ◌∷◌, ◌++◌, take, drop, Some, None, Option, nat_le}
+use Rattle.std.specs.Prelude.{◌≡◌, ℕ, ◌-◌, ◌≤◌, Bool, true, ◌&&◌, ◌∷◌, ◌++◌, take, drop, Some, None, Option, nat_le}
 use Rattle.layout.specs.Numbers.{Bytes, EachByte}
 
 -- ---- sources

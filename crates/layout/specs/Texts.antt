@@ -1,5 +1,5 @@
 -- Texts one after the other, each with its length, and a hint with the bytes behind it.
-use Rattle.std.specs.Prelude.{◌≡◌, ℕ, zero, suc, ◌+◌, ◌<◌, ◌≤◌, Bool, true, false, cond, List, [], ◌∷◌, ◌++◌, length, take, drop, Ok, Err, Result, nat_le}
+use Rattle.std.specs.Prelude.{◌≡◌, ℕ, zero, suc, ◌<◌, ◌≤◌, List, [], ◌∷◌, ◌++◌, length, take, drop, Ok, Err, Result, nat_le}
 use Rattle.layout.specs.Numbers.{Bytes, whole, low_first}
 use Rattle.layout.specs.Questions.{Answer, next, asked, part}
 use Rattle.layout.specs.Questions.{Question}

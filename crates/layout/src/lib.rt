@@ -1,5 +1,7 @@
 //! The published layout: definitions and their laws. There is no code type
 //! here: each function owns a theorem about the definitions of specs/.
+#![tactic(auto)]
+
 ghost use Rattle.std.specs.Prelude.{◌≡◌};
 ghost use Rattle.layout.specs.Decode.{DecodeAsks, DecodeBack, DecodeMeans};
 ghost use Rattle.layout.specs.Enumerations.{EnumerationsCoded};

@@ -1,7 +1,7 @@
-use Rattle.std.proofs.Common.{◌≡◌, ◌-◌, ◌≤◌, take, sym, ap, ◌∙◌, subst, arith}
-use Rattle.layout.specs.Numbers.{Bytes, low_first}
+use Rattle.std.proofs.Common.{◌≡◌, ◌-◌, ◌≤◌, take, ap, ◌∙◌, arith}
+use Rattle.layout.specs.Numbers.{low_first}
 use Rattle.exr_sink.proofs.Runs.{gave_same}
-use Rattle.exr_io.proofs.Words.{eight_bytes, eight_low_first, take-low_first}
+use Rattle.exr_io.proofs.Words.{eight_low_first, take-low_first}
 use Rattle.exr_io.proofs.number.write_le.Goals as goal
 
 pub returns : goal.returns

@@ -1,4 +1,4 @@
-use Rattle.std.proofs.Common.{◌≡◌, ◌<◌, length, Err, ap, ◌∙◌, arith}
+use Rattle.std.proofs.Common.{◌<◌, length, Err, ap, ◌∙◌, arith}
 use Rattle.std.proofs.lemmas.List.{set-get_or}
 use Rattle.std.proofs.lemmas.Result.{err_from_is_err_and}
 use Rattle.exr_io.proofs.Sliced.{reading_more, reading_stopped, reading_done}

@@ -1,9 +1,8 @@
 use Rattle.layout.specs.Numbers.{low_first}
-use Rattle.std.proofs.Common.{◌≡◌, ◌+◌, get_or, take, drop, Ok, Err, sym, refl, ap, ◌∙◌, subst, rules}
+use Rattle.std.proofs.Common.{◌≡◌, ◌+◌, take, drop}
 use Rattle.std.specs.List.{flat_map}
 use Rattle.std.proofs.lemmas.Result.{err_from_is_err_and}
 use Rattle.std.proofs.lemmas.List.{take_all}
-use Rattle.exr_sink.specs.Gifts.{GaveAll}
 use Rattle.exr_sink.proofs.Runs.{gave_on, gave_short, joined_next, joined_split}
 use Rattle.exr_io.proofs.runs.write_slice_le.Goals as goal
 

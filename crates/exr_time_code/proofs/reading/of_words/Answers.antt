@@ -1,4 +1,3 @@
-use Rattle.std.proofs.Common.{rules}
 use Rattle.exr_time_code.specs.Times.{code_of_words}
 use Rattle.exr_time_code.proofs.reading.of_words.Goals as goal
 

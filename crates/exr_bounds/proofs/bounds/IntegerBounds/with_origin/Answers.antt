@@ -1,4 +1,4 @@
-use Rattle.std.proofs.Common.{◌≡◌, ℕ, ℤ, ap, ◌∙◌, rules}
+use Rattle.std.proofs.Common.{◌≡◌, ℕ, ℤ, ap, rules}
 use Rattle.exr_vec2.specs.declared.Vec2.{Vec2}
 use Rattle.exr_bounds.specs.Bounds.{box_of, moved}
 use Rattle.exr_bounds.proofs.Boxes.{moved_same, moved_x_out, moved_y_out}
