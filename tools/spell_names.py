@@ -36,7 +36,8 @@ def words(text):
 
 
 def ticked(text):
-    return TICKED.sub(lambda m: words(m.group(0)), text)
+    """Between backticks; a kind of the file format keeps its name, which is no name of a definition there."""
+    return TICKED.sub(lambda m: m.group(0) if m.group(0) == "`lineOrder`" else words(m.group(0)), text)
 
 
 def outside_quotes(text):
