@@ -1,5 +1,5 @@
 use Rattle.exr_number.proofs.Truncates.{truncates}
 use Rattle.exr_number.proofs.quotients.quotients_are_truncated.Goals as goal
 
-pub returns : goal.returns
-returns c = truncates
+pub returns-clause-truncated : goal.returns-clause-truncated
+returns-clause-truncated c = truncates
