@@ -45,12 +45,8 @@ pub fn read_exact<S: Source>(source: &mut S, buffer: &mut [u8]) -> Result<(), Sh
     let mut filled = 0;
     while filled < buffer.len() {
         match source.read(&mut buffer[filled..]) {
-            Ok(k) => {
-                filled += k;
-            }
-            Err(stop) => {
-                return Err(Short { stop, got: filled });
-            }
+            Ok(k) => filled += k,
+            Err(stop) => return Err(Short { stop, got: filled }),
         }
     }
     Ok(())
