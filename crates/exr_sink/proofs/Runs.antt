@@ -14,15 +14,20 @@ use Rattle.layout.proofs.Parts.{take_add}
 pub gave_same : (m : SinkMeaning) (bs cs : Bytes) (r : Result (Unit {0}) Full) (m' : SinkMeaning) → bs ≡ cs → GaveAll m bs r m' → GaveAll m cs r m'
 gave_same m bs cs r m' e g = subst (λ (x : Bytes). GaveAll m x r m') e g
 
+-- the first none of some bytes
+pub with_none : (m : SinkMeaning) (bs : Bytes) → m ≡ with 0 bs m
+with_none m bs =
+    let n : m.room ≡ m.room - 0 = omega arith in
+    ap (λ x. sink_of x m.room m.stop) (sym (append-nil m.taken)) ∙ ap (λ x. sink_of (m.taken ++ []) x m.stop) n
+
 -- nothing given is taken whole
 pub gave_none : (m : SinkMeaning) → GaveAll m [] (Ok tt) m
-gave_none m = record {
-  answer = sym (ap (λ b. all_or b m.stop) (le-leb 0 m.room (omega arith)));
-  after =
-      let z : 0 ≡ min 0 m.room = omega arith in
-      let n : m.room ≡ m.room - 0 = omega arith in
-      ap (λ x. sink_of x m.room m.stop) (sym (append-nil m.taken)) ∙ ap (λ x. sink_of (m.taken ++ []) x m.stop) n ∙ ap (λ k. with k [] m) z;
-}
+gave_none m =
+    let z : 0 ≡ min 0 m.room = omega arith in
+    record {
+      answer = sym (ap (λ b. all_or b m.stop) (le-leb 0 m.room (omega arith)));
+      after = with_none m [] ∙ ap (λ k. with k [] m) z;
+    }
 
 -- which way a test went, by what it answered
 ok_only : (b : Bool) (s : ℕ) → Ok tt ≡ all_or b s → b ≡ true
