@@ -42,18 +42,16 @@ impl<'a> Sink for LentBuffer<'a> {
     ghost steady = { lent_steady };
 
     fn write(&mut self, bytes: &[u8]) -> Result<usize, Full> {
-        let n = bytes.len();
-        if n == 0 {
+        if bytes.is_empty() {
             return Ok(0);
         }
-        let at = self.at;
-        let len = self.buffer.len();
-        if at >= len {
+        let room = self.buffer.len().saturating_sub(self.at);
+        if room == 0 {
             return Err(Full { number: 1 });
         }
-        let k = n.min(len - at);
-        let end = at + k;
-        self.buffer[at..end].copy_from_slice(&bytes[0..k]);
+        let k = bytes.len().min(room);
+        let end = self.at + k;
+        self.buffer[self.at..end].copy_from_slice(&bytes[..k]);
         self.at = end;
         Ok(k)
     }

@@ -11,12 +11,8 @@ returns c =
     let within : at + k ≤ length buffer = omega arith in
     let given : k ≤ length bytes = omega arith in
     let e = c.copy_from_slice.ensures.after in
+    let long = written_length at k buffer bytes _ within given e in
     record {
-      takes = record {
-        given = given;
-        room = omega arith;
-        some = omega arith;
-        after = written_meaning at k buffer bytes _ within given e (length buffer) _ 1 (written_length at k buffer bytes _ within given e);
-      };
-      kept = record { lender = refl; long = written_length at k buffer bytes _ within given e; further = omega arith; within = λ _. omega (arith, written_length at k buffer bytes _ within given e); behind = written_behind at k buffer bytes _ within given e };
+      takes = record { given = given; room = omega arith; some = omega arith; after = written_meaning at k buffer bytes _ within given e };
+      kept = record { lender = refl; long = long; further = omega arith; within = λ _. omega (arith, long); behind = written_behind at k buffer bytes _ within given e };
     }
