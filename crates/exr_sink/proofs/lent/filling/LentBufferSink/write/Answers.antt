@@ -1,6 +1,6 @@
 use Rattle.std.proofs.Common.{◌+◌, ◌≤◌, length, refl, arith}
 use Rattle.exr_sink.proofs.Laying.{written_meaning, written_length, written_behind}
-use Rattle.exr_sink.proofs.lent.LentBufferSink.write.Goals as goal
+use Rattle.exr_sink.proofs.lent.filling.LentBufferSink.write.Goals as goal
 
 pub returns : goal.returns
 returns c =
