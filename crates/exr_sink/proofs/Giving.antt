@@ -6,7 +6,8 @@ use Rattle.exr_error.specs.declared.stop.Full.{Full}
 use Rattle.layout.specs.Numbers.{Bytes}
 use Rattle.layout.specs.Streams.{SinkMeaning, sink_of, with}
 use Rattle.layout.proofs.Parts.{lent}
-use Rattle.exr_sink.specs.Gifts.{all_or, Took, Refused, GaveAll}
+use Rattle.exr_source.specs.Whole.{all_or}
+use Rattle.exr_sink.specs.Gifts.{full, Took, Refused, GaveAll}
 use Rattle.exr_sink.proofs.Runs.{gave_on, gave_same, with_none}
 
 -- the bytes of one gift that were taken were all taken
@@ -15,7 +16,7 @@ took_all m bs k m' t =
     let l : length (take k bs) ≡ k = length-take-le k bs t.given in
     let n : min (length (take k bs)) m.room ≡ k = omega (arith, l, t.room) in
     record {
-      answer = sym (ap (λ b. all_or b m.stop) (le-leb (length (take k bs)) m.room (omega (arith, l, t.room))));
+      answer = sym (ap (λ b. all_or b (full m.stop)) (le-leb (length (take k bs)) m.room (omega (arith, l, t.room))));
       after = t.after ∙ ap (λ x. sink_of (m.taken ++ x) (m.room - k) m.stop) (sym (take_all k (take k bs) (omega (arith, l)))) ∙ ap (λ j. with j (take k bs) m) (sym n);
     }
 
@@ -30,6 +31,6 @@ pub refused_all : (m : SinkMeaning) (bs : Bytes) (e : Full) (m' : SinkMeaning) (
 refused_all m bs e m' r s re =
     let n : min (length bs) m.room ≡ 0 = omega (arith, s.none) in
     record {
-      answer = re ∙ ap Err s.why ∙ sym (ap (λ b. all_or b m.stop) (lt-leb (length bs) m.room (omega (arith, s.given, s.none))));
+      answer = re ∙ ap Err s.why ∙ sym (ap (λ b. all_or b (full m.stop)) (lt-leb (length bs) m.room (omega (arith, s.given, s.none))));
       after = s.after ∙ with_none m bs ∙ ap (λ k. with k bs m) (sym n);
     }
