@@ -20,10 +20,7 @@ returns-in_err-k g c =
       kept = g.W.Sink.steady.on _ _ _ c.loop-rest.invariant.kept c.in_err-k.ensures.kept;
     }
 
-pub returns : goal.returns
-returns g c =
+pub returns-clause-takes : goal.returns-clause-takes
+returns-clause-takes g c =
     let z : length c.loop-rest.rest.now ≡ 0 = grind (arith, nat_tests) in
-    record {
-      takes = c.loop-rest.invariant.takes (Ok tt) _ (gave_same _ [] _ _ _ (sym (nil_from_length c.loop-rest.rest.now z)) (gave_none _));
-      kept = c.loop-rest.invariant.kept;
-    }
+    c.loop-rest.invariant.takes (Ok tt) _ (gave_same _ [] _ _ _ (sym (nil_from_length c.loop-rest.rest.now z)) (gave_none _))
