@@ -2,6 +2,7 @@ ghost use Rattle.std.specs.Prelude.{◌≡◌, ◌-◌, [], length};
 ghost use Rattle.std.proofs.Common.{lit≤};
 ghost use Rattle.layout.specs.Streams.{sink_of};
 
+use crate::part::part_for;
 use crate::sink::Sink;
 use arrayvec::ArrayVec;
 use exr_error::stop::Full;
@@ -43,15 +44,9 @@ impl Sink for Block {
     ghost steady = { record { same = λ _. tt; on = λ _ _ _ _ _. tt } };
 
     fn write(&mut self, bytes: &[u8]) -> Result<usize, Full> {
-        if bytes.is_empty() {
-            return Ok(0);
-        }
-        let room = self.bytes.remaining_capacity();
-        if room == 0 {
-            return Err(Full { number: 2 });
-        }
-        let k = bytes.len().min(room);
-        self.bytes.try_extend_from_slice(&bytes[..k]).unwrap();
-        Ok(k)
+        let part = part_for(bytes, self.bytes.remaining_capacity(), 2)?;
+        // it fits: the part has no more bytes than there is room for
+        self.bytes.try_extend_from_slice(part).unwrap();
+        Ok(part.len())
     }
 }

@@ -4,6 +4,7 @@ ghost use Rattle.layout.specs.Streams.{sink_of};
 ghost use Rattle.exr_sink.specs.Lent.{LentKept, lent_steady};
 
 use crate::lent::LentBuffer;
+use crate::part::part_for;
 use crate::sink::Sink;
 use exr_error::stop::Full;
 
@@ -17,17 +18,10 @@ impl<'a> Sink for LentBuffer<'a> {
     ghost steady = { lent_steady };
 
     fn write(&mut self, bytes: &[u8]) -> Result<usize, Full> {
-        if bytes.is_empty() {
-            return Ok(0);
-        }
-        let room = self.buffer.len() - self.at;
-        if room == 0 {
-            return Err(Full { number: 1 });
-        }
-        let k = bytes.len().min(room);
-        let end = self.at + k;
-        self.buffer[self.at..end].copy_from_slice(&bytes[..k]);
+        let part = part_for(bytes, self.buffer.len() - self.at, 1)?;
+        let end = self.at + part.len();
+        self.buffer[self.at..end].copy_from_slice(part);
         self.at = end;
-        Ok(k)
+        Ok(part.len())
     }
 }

@@ -1,18 +1,15 @@
-use Rattle.std.proofs.Common.{◌+◌, ◌≤◌, length, refl, arith}
-use Rattle.exr_sink.proofs.Laying.{written_meaning, written_length, written_behind}
+use Rattle.std.proofs.Common.{◌≡◌, ◌+◌, ◌≤◌, length, refl, ap, arith}
+use Rattle.std.proofs.lemmas.List.{length-take}
+use Rattle.exr_sink.proofs.Laying.{put_length, put_behind}
 use Rattle.exr_sink.proofs.lent.filling.LentBufferSink.write.Goals as goal
 
-pub returns : goal.returns
-returns c =
+pub returns-clause-kept : goal.returns-clause-kept
+returns-clause-kept c =
     let at = c.args.self.now.at in
-    let k = c.min-k.result in
     let buffer = c.args.self.now.buffer.now in
-    let bytes = c.args.bytes.now in
-    let within : at + k ≤ length buffer = omega arith in
-    let given : k ≤ length bytes = omega arith in
-    let e = c.copy_from_slice.ensures.after in
-    let long = written_length at k buffer bytes _ within given e in
-    record {
-      takes = record { given = given; room = omega arith; some = omega arith; after = written_meaning at k buffer bytes _ within given e };
-      kept = record { lender = refl; long = long; further = omega arith; within = λ _. omega (arith, long); behind = written_behind at k buffer bytes _ within given e };
-    }
+    let part = c.in_ok-part.part.now in
+    let now = c.copy_from_slice.new.self in
+    let within : at + length part ≤ length buffer = omega (arith, simp length-take at (ap length c.in_ok-part.ensures.part)) in
+    let fits : length now ≡ length part = ap length c.copy_from_slice.ensures.after in
+    let long = put_length at (length part) buffer now within fits in
+    record { lender = refl; long = long; further = omega arith; within = λ _. omega (arith, long); behind = put_behind at (length part) buffer now within fits }
