@@ -11,5 +11,4 @@ returns-clause-kept c =
     let now = c.copy_from_slice.new.self in
     let within : at + length part ≤ length buffer = omega (arith, simp length-take at (ap length c.in_ok-part.ensures.part)) in
     let fits : length now ≡ length part = ap length c.copy_from_slice.ensures.after in
-    let long = put_length at (length part) buffer now within fits in
-    record { lender = refl; long = long; further = omega arith; within = λ _. omega (arith, long); behind = put_behind at (length part) buffer now within fits }
+    record { lender = refl; long = put_length at (length part) buffer now within fits; further = omega arith; behind = put_behind at (length part) buffer now within fits }
