@@ -9,7 +9,6 @@ pub record LentKept (s t : LentBuffer) : Type 0 where
   pub lender : t.buffer.ghost_name ≡ s.buffer.ghost_name
   pub long : length t.buffer.now ≡ length s.buffer.now
   pub further : s.at ≤ t.at
-  pub within : s.at ≤ length s.buffer.now → t.at ≤ length t.buffer.now
   pub behind : drop t.at t.buffer.now ≡ drop t.at s.buffer.now
 
 drop_further : {X : Type 0} (m n : ℕ) (xs ys : List X) → m ≤ n → drop m xs ≡ drop m ys → drop n xs ≡ drop n ys
@@ -19,12 +18,11 @@ drop_further m n xs ys h e =
 
 pub lent_steady : Steady LentKept
 lent_steady = record {
-  same = λ s. record { lender = refl; long = refl; further = le_refl s.at; within = λ h. h; behind = refl };
+  same = λ s. record { lender = refl; long = refl; further = le_refl s.at; behind = refl };
   on = λ s t u h k. record {
     lender = k.lender ∙ h.lender;
     long = k.long ∙ h.long;
     further = le_trans h.further k.further;
-    within = λ w. k.within (h.within w);
     behind = k.behind ∙ drop_further t.at u.at t.buffer.now s.buffer.now k.further h.behind;
   };
 }

@@ -4,5 +4,6 @@
 
 pub mod block;
 pub mod lent;
+mod part;
 pub mod sink;
 pub mod write;
