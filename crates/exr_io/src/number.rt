@@ -12,7 +12,7 @@ use exr_source::source::Source;
 
 /// Gives the bytes of a number to a sink, the lowest first.
 pub fn write_le<D: Data, W: Sink>(sink: &mut W, number: D) -> Result<(), Full>
-    ensures takes { GaveAll (W.means sink.old) (low_first D.width (D.bits number)) result (W.means sink.new) }
+    ensures takes { GaveAll (W.means sink.old) (low_first D.BYTE_SIZE (D.bits number)) result (W.means sink.new) }
     ensures kept { W.keeps sink.old sink.new }
     ensures valid { D.fits number }
 {
@@ -24,7 +24,7 @@ pub fn write_le<D: Data, W: Sink>(sink: &mut W, number: D) -> Result<(), Full>
 /// Takes the bytes of a number from a source, or answers the stop that came
 /// first.
 pub fn read_le<D: Data, S: Source>(source: &mut S) -> Result<D, Stop>
-    ensures gives { ReadLe D.width D.value (S.means source.old) result (S.means source.new) }
+    ensures gives { ReadLe D.BYTE_SIZE D.value (S.means source.old) result (S.means source.new) }
     ensures kept { S.keeps source.old source.new }
     ensures valid { IfOk result D.fits }
 {

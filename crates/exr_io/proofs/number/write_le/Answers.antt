@@ -6,7 +6,7 @@ use Rattle.exr_io.proofs.number.write_le.Goals as goal
 
 pub returns : goal.returns
 returns g c =
-    let w = g.D.Data.width in
+    let w = g.D.Data.BYTE_SIZE in
     let size = c.size_in_bytes-size.result in
     let n = c.to_word.result in
     let front : size - 0 ≡ w = omega (arith, c.size_in_bytes-size.ensures.size) in

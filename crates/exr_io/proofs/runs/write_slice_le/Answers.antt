@@ -11,8 +11,8 @@ returns-in_err-write_le g c =
     let p = err_from_is_err_and c.from_residual.result c.from_residual.ensures.1 in
     let q = c.in_err-write_le.ensures in
     let on = gave_on _ _ _ _ _ _ c.loop-x.invariant.0 q.takes in
-    let all = joined_split (λ x. low_first g.D.Data.width (g.D.Data.bits x)) c.args.slice.now c.loop-x.x-index c.x-item.result c.loop-x-test.true c.x-item.is in
-    let short = gave_short _ _ (flat_map (λ x. low_first g.D.Data.width (g.D.Data.bits x)) (drop (c.loop-x.x-index + 1) c.args.slice.now)) _ _ on in
+    let all = joined_split (λ x. low_first g.D.Data.BYTE_SIZE (g.D.Data.bits x)) c.args.slice.now c.loop-x.x-index c.x-item.result c.loop-x-test.true c.x-item.is in
+    let short = gave_short _ _ (flat_map (λ x. low_first g.D.Data.BYTE_SIZE (g.D.Data.bits x)) (drop (c.loop-x.x-index + 1) c.args.slice.now)) _ _ on in
     record {
       takes = rw (p.1, p.2, all) short;
       kept = g.W.Sink.steady.on _ _ _ c.loop-x.invariant.1 q.kept;
@@ -21,7 +21,7 @@ returns-in_err-write_le g c =
 pub loop-x-preserved : goal.loop-x-preserved
 loop-x-preserved g c =
     let q = c.in_ok-write_le.ensures in
-    let more = joined_next (λ x. low_first g.D.Data.width (g.D.Data.bits x)) c.args.slice.now c.loop-x.x-index c.x-item.result c.loop-x-test.true c.x-item.is in (
+    let more = joined_next (λ x. low_first g.D.Data.BYTE_SIZE (g.D.Data.bits x)) c.args.slice.now c.loop-x.x-index c.x-item.result c.loop-x-test.true c.x-item.is in (
       rw more (gave_on _ _ _ _ _ _ c.loop-x.invariant.0 q.takes),
       g.W.Sink.steady.on _ _ _ c.loop-x.invariant.1 q.kept,
     )

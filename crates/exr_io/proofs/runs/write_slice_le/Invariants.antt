@@ -6,5 +6,5 @@ use Rattle.exr_io.proofs.runs.write_slice_le.Given as goal
 
 abbrev pub invariant-loop-x : goal.invariant-loop-x
 invariant-loop-x g l =
-    GaveAll (g.W.Sink.means l.initial.sink) (flat_map (λ x. low_first g.D.Data.width (g.D.Data.bits x)) (take l.x-index l.slice)) (Ok tt) (g.W.Sink.means l.sink)
+    GaveAll (g.W.Sink.means l.initial.sink) (flat_map (λ x. low_first g.D.Data.BYTE_SIZE (g.D.Data.bits x)) (take l.x-index l.slice)) (Ok tt) (g.W.Sink.means l.sink)
     × g.W.Sink.keeps l.initial.sink l.sink
