@@ -1,6 +1,5 @@
 -- A number taken from a source through the front of an array of eight bytes.
 use Rattle.std.proofs.Common.{◌≡◌, ℕ, zero, suc, ◌-◌, ◌%◌, ◌≤◌, leb, ◌∷◌, ◌++◌, length, take, drop, Ok, sym, refl, ap, ◌∙◌, subst, arith, le-leb, leb-true}
-use borrow.Rule.Slice.PartMut.{post_of}
 use Rattle.std.proofs.lemmas.List.{length-replicate, length-take-le, length-append, drop_all, append-nil}
 use Rattle.layout.specs.Numbers.{Bytes, EachByte, whole, range}
 use Rattle.layout.specs.Streams.{SourceMeaning, after}
@@ -25,17 +24,14 @@ drop-zeros (suc w) (suc k) h = let n : k - w ≡ suc k - suc w = omega arith in 
 
 -- the part lent for the number
 abbrev pub lent_front : ℕ → Bytes
-lent_front size = take (size - 0) (zeros 8)
+lent_front size = take size (zeros 8)
 
-module _ (w size : ℕ) (same : size ≡ w) (most : size ≤ 8) (m : SourceMeaning) (x : Unit {0}) (m' : SourceMeaning) (part : Bytes) (f : Filled m (lent_front size) (Ok x) m' part) where
+module _ (w size : ℕ) (same : size ≡ w) (few : w ≤ 8) (m : SourceMeaning) (x : Unit {0}) (m' : SourceMeaning) (part : Bytes) (f : Filled m (lent_front size) (Ok x) m' part) where
   abbrev array : Bytes
-  array = part ++ post_of 0 (size - 0) (zeros 8)
-
-  few : w ≤ 8
-  few = omega (arith, same, most)
+  array = part ++ drop size (zeros 8)
 
   lent_is : lent_front size ≡ zeros w
-  lent_is = let e : size - 0 ≡ w = omega (arith, same) in ap (λ n. take n (zeros 8)) e ∙ take-zeros w 8 few
+  lent_is = ap (λ n. take n (zeros 8)) same ∙ take-zeros w 8 few
 
   lent_long : length (lent_front size) ≡ w
   lent_long = ap length lent_is ∙ length-zeros w
@@ -52,11 +48,11 @@ module _ (w size : ℕ) (same : size ≡ w) (most : size ≤ 8) (m : SourceMeani
       ∙ ap (λ t. take w m.bytes ++ t) (drop_all w (lent_front size) (omega (arith, lent_long)))
       ∙ append-nil (take w m.bytes)
 
-  behind : post_of 0 (size - 0) (zeros 8) ≡ zeros (8 - w)
-  behind = let e : size - 0 ≡ w = omega (arith, same) in ap (λ n. drop n (zeros 8)) e ∙ drop-zeros w 8 few
+  behind : drop size (zeros 8) ≡ zeros (8 - w)
+  behind = ap (λ n. drop n (zeros 8)) same ∙ drop-zeros w 8 few
 
   array_is : array ≡ take w m.bytes ++ zeros (8 - w)
-  array_is = ap (λ t. t ++ post_of 0 (size - 0) (zeros 8)) part_is ∙ ap (λ t. take w m.bytes ++ t) behind
+  array_is = ap (λ t. t ++ drop size (zeros 8)) part_is ∙ ap (λ t. take w m.bytes ++ t) behind
 
   array_long : length array ≡ 8
   array_long =

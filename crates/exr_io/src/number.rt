@@ -17,8 +17,7 @@ pub fn write_le<D: Data, W: Sink>(sink: &mut W, number: D) -> Result<(), Full>
     ensures valid { D.fits number }
 {
     let bytes = number.to_word().to_le_bytes();
-    let size = D::size_in_bytes();
-    write_all(sink, &bytes[0..size])
+    write_all(sink, &bytes[..D::BYTE_SIZE])
 }
 
 /// Takes the bytes of a number from a source, or answers the stop that came
@@ -28,9 +27,9 @@ pub fn read_le<D: Data, S: Source>(source: &mut S) -> Result<D, Stop>
     ensures kept { S.keeps source.old source.new }
     ensures valid { IfOk result D.fits }
 {
+    // An array's length is a constant or a parameter, not a trait's constant.
     let mut bytes = [0u8; 8];
-    let size = D::size_in_bytes();
-    match read_exact(source, &mut bytes[0..size]) {
+    match read_exact(source, &mut bytes[..D::BYTE_SIZE]) {
         Ok(()) => Ok(D::from_word(u64::from_le_bytes(bytes))),
         Err(short) => Err(short.stop),
     }
