@@ -31,11 +31,11 @@ impl Data for u16 {
 }
 
 impl Data for i16 {
-    ghost fits = { λ x. FitsSigned w16 x };
+    ghost fits = { FitsSigned w16 };
 
-    ghost bits = { λ x. of_z w16 x };
+    ghost bits = { of_z w16 };
 
-    ghost value = { λ n. to_z w16 n };
+    ghost value = { to_z w16 };
 
     const BYTE_SIZE: usize = u16::BYTE_SIZE;
 

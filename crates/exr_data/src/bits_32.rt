@@ -35,11 +35,11 @@ impl Data for u32 {
 }
 
 impl Data for i32 {
-    ghost fits = { λ x. FitsSigned w32 x };
+    ghost fits = { FitsSigned w32 };
 
-    ghost bits = { λ x. of_z w32 x };
+    ghost bits = { of_z w32 };
 
-    ghost value = { λ n. to_z w32 n };
+    ghost value = { to_z w32 };
 
     const BYTE_SIZE: usize = u32::BYTE_SIZE;
 
@@ -64,9 +64,9 @@ impl Data for i32 {
 impl Data for f32 {
     ghost fits = { λ x. T (Ieee.fits binary32 x) };
 
-    ghost bits = { λ x. Ieee.to_bits binary32 x };
+    ghost bits = { Ieee.to_bits binary32 };
 
-    ghost value = { λ n. Ieee.of_bits binary32 n };
+    ghost value = { Ieee.of_bits binary32 };
 
     const BYTE_SIZE: usize = u32::BYTE_SIZE;
 
@@ -74,9 +74,9 @@ impl Data for f32 {
 
     ghost narrow = { lit≤ tt };
 
-    ghost below = { λ x h. to_bits-lt binary32 x h };
+    ghost below = { to_bits-lt binary32 };
 
-    ghost back = { λ x h. of_bits-to_bits binary32 x h };
+    ghost back = { of_bits-to_bits binary32 };
 
     fn to_word(self) -> u64 {
         f32_to_bits_with_nan(self).to_word()

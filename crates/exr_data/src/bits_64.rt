@@ -35,11 +35,11 @@ impl Data for u64 {
 }
 
 impl Data for i64 {
-    ghost fits = { λ x. FitsSigned w64 x };
+    ghost fits = { FitsSigned w64 };
 
-    ghost bits = { λ x. of_z w64 x };
+    ghost bits = { of_z w64 };
 
-    ghost value = { λ n. to_z w64 n };
+    ghost value = { to_z w64 };
 
     const BYTE_SIZE: usize = u64::BYTE_SIZE;
 
@@ -64,9 +64,9 @@ impl Data for i64 {
 impl Data for f64 {
     ghost fits = { λ x. T (Ieee.fits binary64 x) };
 
-    ghost bits = { λ x. Ieee.to_bits binary64 x };
+    ghost bits = { Ieee.to_bits binary64 };
 
-    ghost value = { λ n. Ieee.of_bits binary64 n };
+    ghost value = { Ieee.of_bits binary64 };
 
     const BYTE_SIZE: usize = u64::BYTE_SIZE;
 
@@ -74,9 +74,9 @@ impl Data for f64 {
 
     ghost narrow = { lit≤ tt };
 
-    ghost below = { λ x h. to_bits-lt binary64 x h };
+    ghost below = { to_bits-lt binary64 };
 
-    ghost back = { λ x h. of_bits-to_bits binary64 x h };
+    ghost back = { of_bits-to_bits binary64 };
 
     fn to_word(self) -> u64 {
         f64_to_bits_with_nan(self).to_word()

@@ -31,11 +31,11 @@ impl Data for u8 {
 }
 
 impl Data for i8 {
-    ghost fits = { λ x. FitsSigned w8 x };
+    ghost fits = { FitsSigned w8 };
 
-    ghost bits = { λ x. of_z w8 x };
+    ghost bits = { of_z w8 };
 
-    ghost value = { λ n. to_z w8 n };
+    ghost value = { to_z w8 };
 
     const BYTE_SIZE: usize = u8::BYTE_SIZE;
 
