@@ -27,7 +27,7 @@ pub fn read_slice_le<D: Data, S: Source>(source: &mut S, slice: &mut [D]) -> Res
     ensures gives { ReadRun D.BYTE_SIZE D.value (S.means source.old) slice.old result (S.means source.new) slice.new }
     ensures kept { S.keeps source.old source.new }
 {
-    for x in slice.iter_mut() {
+    for x in slice {
         *x = read_le(source)?;
     }
     Ok(())

@@ -8,7 +8,7 @@ pub returns-in_err-x : goal.returns-in_err-x
 returns-in_err-x g c =
     let p = err_from_is_err_and c.from_residual.result c.from_residual.ensures.1 in
     let q = c.in_err-x.ensures in
-    let h : c.loop-x.x-index < length c.loop-x.slice = omega arith in
+    let h : c.loop-x.x-index < length c.loop-x.x-items = omega arith in
     record {
       gives = rw set-get_or (reading_stopped _ _ _ _ _ _ _ c.loop-x.invariant.0 h c.x-item.result _ _ c.from_residual.result q.gives (p.1 ∙ ap Err p.2));
       kept = g.S.Source.steady.on _ _ _ c.loop-x.invariant.1 q.kept;
@@ -17,7 +17,7 @@ returns-in_err-x g c =
 pub loop-x-preserved : goal.loop-x-preserved
 loop-x-preserved g c =
     let q = c.in_ok-x.ensures in
-    let h : c.loop-x.x-index < length c.loop-x.slice = omega arith in (
+    let h : c.loop-x.x-index < length c.loop-x.x-items = omega arith in (
       reading_more _ _ _ _ _ _ _ c.loop-x.invariant.0 h _ _ q.gives,
       g.S.Source.steady.on _ _ _ c.loop-x.invariant.1 q.kept,
     )
