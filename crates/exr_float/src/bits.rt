@@ -26,13 +26,15 @@ impl<W: FloatWord> OfFloats for FloatBits<W> {
     ghost floats_of = { λ b. W.Float.value (W.bits b.bits) };
 
     fn from_floats(x: W::Float) -> FloatBits<W> {
+        let word = x.to_word();
         FloatBits {
-            bits: W::from_word(x.to_word()),
+            bits: W::from_word(word),
         }
     }
 
     fn to_floats(self) -> W::Float {
-        W::Float::from_word(self.bits.to_word())
+        let word = self.bits.to_word();
+        W::Float::from_word(word)
     }
 }
 
@@ -42,7 +44,8 @@ impl<W: FloatWord> FloatBits<W> {
     pub fn from_bits(bits: W) -> Self
         ensures { W.bits result.bits ≡ W.keeps (W.bits bits) }
     {
-        FloatBits::from_floats(W::Float::from_word(bits.to_word()))
+        let word = bits.to_word();
+        FloatBits::from_floats(W::Float::from_word(word))
     }
 
     /// The bits as they are written.
