@@ -4,6 +4,8 @@ ghost use Rattle.exr_float.specs.Elements.{pair_by, triple_by};
 
 use exr_vec2::Vec2;
 
+// Not `From`: for pairs and triples its impl belongs to other crates, and for a
+// word's float it overlaps that of each type for itself.
 /// A value made of the bits of floats.
 pub trait OfFloats: Copy {
     /// The same value made of the floats.
