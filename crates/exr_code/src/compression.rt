@@ -12,7 +12,7 @@ use exr_error::refusal::Refusal;
 use exr_error::stop::Full;
 use exr_io::number::write_le;
 use exr_sink::sink::Sink;
-use exr_value::fields::read_u8;
+use exr_value::fields::Field;
 
 /// How the pixels of an image are compressed.
 #[derive(Clone, Copy)]
@@ -101,7 +101,7 @@ impl Compression {
         ensures case { seen_by (λ e. compression_code (compression_of e) ∷ []) result ≡ fields (fields_of compression) bytes.now }
         ensures level { IfOk result (λ p. level_of p.0 ≡ None) }
     {
-        let (code, rest) = read_u8(bytes)?;
+        let (code, rest) = u8::read(bytes)?;
         Ok((Compression::from_code(code)?, rest))
     }
 

@@ -12,7 +12,7 @@ use exr_error::refusal::Refusal;
 use exr_error::stop::Full;
 use exr_io::number::write_le;
 use exr_sink::sink::Sink;
-use exr_value::fields::read_u8;
+use exr_value::fields::Field;
 
 /// How a texture is projected onto an environment.
 #[derive(Clone, Copy, PartialEq, Eq)]
@@ -57,7 +57,7 @@ impl EnvironmentMap {
     pub fn read(bytes: &[u8]) -> Result<(EnvironmentMap, &[u8]), Refusal>
         ensures { seen_by (λ e. envmap_code (envmap_of e) ∷ []) result ≡ fields (fields_of envmap) bytes.now }
     {
-        let (code, rest) = read_u8(bytes)?;
+        let (code, rest) = u8::read(bytes)?;
         Ok((EnvironmentMap::from_code(code)?, rest))
     }
 

@@ -12,7 +12,7 @@ use exr_error::refusal::Refusal;
 use exr_error::stop::Full;
 use exr_io::number::write_le;
 use exr_sink::sink::Sink;
-use exr_value::fields::read_u8;
+use exr_value::fields::Field;
 
 /// In what order the blocks of pixels stand in a file.
 #[derive(Clone, Copy, PartialEq, Eq)]
@@ -61,7 +61,7 @@ impl LineOrder {
     pub fn read(bytes: &[u8]) -> Result<(LineOrder, &[u8]), Refusal>
         ensures { seen_by (λ e. line_order_code (line_order_of e) ∷ []) result ≡ fields (fields_of line_order) bytes.now }
     {
-        let (code, rest) = read_u8(bytes)?;
+        let (code, rest) = u8::read(bytes)?;
         Ok((LineOrder::from_code(code)?, rest))
     }
 

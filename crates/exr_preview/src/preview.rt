@@ -12,7 +12,7 @@ use exr_error::stop::Full;
 use exr_io::runs::write_slice_le;
 use exr_sink::sink::Sink;
 use exr_sink::write::write_all;
-use exr_value::fields::read_u32;
+use exr_value::fields::Field;
 use exr_vec2::Vec2;
 
 /// A small picture that resembles the image. Each pixel has four bytes: red,
@@ -60,8 +60,8 @@ impl<'a> Preview<'a> {
     pub fn read(bytes: &'a [u8]) -> Result<(Preview<'a>, &'a [u8]), Refusal>
         ensures { seen_by preview_form result ≡ picture bytes.now }
     {
-        let (width, rest) = read_u32(bytes)?;
-        let (height, rest) = read_u32(rest)?;
+        let (width, rest) = u32::read(bytes)?;
+        let (height, rest) = u32::read(rest)?;
         let (pixel_data, rest) = read_pixels(rest, pixel_bytes(width, height))?;
         let size = Vec2(width as usize, height as usize);
         Ok((Preview { size, pixel_data }, rest))

@@ -15,7 +15,7 @@ use exr_io::number::write_le;
 use exr_io::runs::write_slice_le;
 use exr_math::rounding::RoundingMode;
 use exr_sink::sink::Sink;
-use exr_value::fields::{read_u8, read_u32};
+use exr_value::fields::Field;
 use exr_vec2::Vec2;
 
 /// How an image is divided into tiles, and whether it has several levels.
@@ -53,9 +53,9 @@ impl TileDescription {
     pub fn read(bytes: &[u8]) -> Result<(TileDescription, &[u8]), Refusal>
         ensures { seen_by tile_numbers result ≡ fields (fields_of tiledesc) bytes.now }
     {
-        let (width, rest) = read_u32(bytes)?;
-        let (height, rest) = read_u32(rest)?;
-        let (mode, rest) = read_u8(rest)?;
+        let (width, rest) = u32::read(bytes)?;
+        let (height, rest) = u32::read(rest)?;
+        let (mode, rest) = u8::read(rest)?;
         let (level_mode, rounding_mode) = modes_of(mode)?;
         let tile_size = Vec2(width as usize, height as usize);
         let found = TileDescription {
