@@ -74,10 +74,8 @@ impl KeyCode {
     {
         let mut bytes = [0u8; 28];
         read_exact(source, &mut bytes)?;
-        match KeyCode::read(&bytes) {
-            Ok((key_code, _)) => Ok(key_code),
-            Err(refusal) => Err(refusal.at(0, 28)),
-        }
+        let (key_code, _) = KeyCode::read(&bytes).map_err(|refusal| refusal.at(0, 28))?;
+        Ok(key_code)
     }
 
     /// Gives its seven numbers to a sink, in the order of the fields.
