@@ -8,7 +8,7 @@ ghost use Rattle.exr_float.specs.Floats.{held};
 use exr_error::refusal::Refusal;
 use exr_float::double::F64Bits;
 use exr_float::single::F32Bits;
-use exr_value::fields::{read_u32, read_u64};
+use exr_value::fields::Field;
 use exr_vec2::Vec2;
 
 /// The float at the front of some bytes, and the bytes behind it; 6 if its
@@ -16,7 +16,7 @@ use exr_vec2::Vec2;
 pub fn read_f32(bytes: &[u8]) -> Result<(F32Bits, &[u8]), Refusal>
     ensures { seen_by (λ x. held (alone x)) result ≡ singles 1 bytes.now }
 {
-    let (bits, rest) = read_u32(bytes)?;
+    let (bits, rest) = u32::read(bytes)?;
     Ok((F32Bits::from_bits(bits), rest))
 }
 
@@ -25,7 +25,7 @@ pub fn read_f32(bytes: &[u8]) -> Result<(F32Bits, &[u8]), Refusal>
 pub fn read_f64(bytes: &[u8]) -> Result<(F64Bits, &[u8]), Refusal>
     ensures { seen_by (λ x. x.bits ∷ []) result ≡ fields (fields_of double) bytes.now }
 {
-    let (bits, rest) = read_u64(bytes)?;
+    let (bits, rest) = u64::read(bytes)?;
     Ok((F64Bits::from_bits(bits), rest))
 }
 
