@@ -10,7 +10,7 @@ pub trait Field: Data {
     /// The number at the front of some bytes, lowest byte first, and the bytes
     /// behind it; 6 if its bytes are not all there.
     fn read(bytes: &[u8]) -> Result<(Self, &[u8]), Refusal>
-        ensures { seen_by Self.bits result ≡ number_at Self.width bytes.now };
+        ensures { seen_by Self.bits result ≡ number_at Self.BYTE_SIZE bytes.now };
 }
 
 impl Field for u8 {
