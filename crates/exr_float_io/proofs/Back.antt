@@ -1,15 +1,16 @@
 -- Floats that are written are read back.
 use Rattle.std.proofs.Common.{◌≡◌, ℕ, ◌%◌, ◌^◌, ◌<◌, Bool, true, false, cond, ltb, List, [], ◌∷◌, ◌++◌, map, length, replicate, sym, refl, ap, ◌∙◌, arith}
-use lib.Ieee.{binary32, of_bits}
+use Rattle.std.specs.List.{All}
+use Rattle.std.proofs.lemmas.List.Elements.{All-head, All-tail}
+use lib.Ieee.{binary32, binary64, of_bits}
 use Rattle.layout.specs.Numbers.{range}
 use Rattle.layout.specs.Floats.{one_nan, single, double}
 use Rattle.layout.specs.Fields.{f32, f64, field_bytes, Held}
 use Rattle.layout.proofs.Fielded.{fields_back, fields_written, words_are}
-use Rattle.exr_float.specs.declared.single.F32Bits.{F32Bits}
-use Rattle.exr_float.specs.declared.double.F64Bits.{F64Bits}
+use Rattle.exr_float.specs.declared.bits.FloatBits.{FloatBits}
 use Rattle.exr_float.specs.Floats.{float_of, written}
-use Rattle.exr_float.proofs.Patterns.{floats_are_their_bits_lem}
-use Rattle.exr_float_io.specs.Back.{Each, ReadBack, DoubleBack, FloatsReadBack}
+use Rattle.exr_float.specs.Patterns.{same}
+use Rattle.exr_float_io.specs.Back.{Single, ReadBack, DoubleBack, FloatsReadBack}
 
 -- what is kept is of the width, and is kept as it is
 module _ (sign infinity nan : ℕ) where
@@ -21,18 +22,18 @@ module _ (sign infinity nan : ℕ) where
   again h n true e = ap (λ (b : Bool). cond b nan nan) h
   again h n false e = ap (λ (b : Bool). cond b nan n) e
 
-held_each : (bs : List F32Bits) → Each bs → Held (replicate (length bs) f32) (written bs)
+held_each : (bs : List (FloatBits ℕ)) → All Single bs → Held (replicate (length bs) f32) (written bs)
 unfolding Held
 held_each [] h = tt
 held_each (b ∷ bs) h =
     let t = ltb 0x7F800000 (b.bits % 0x80000000) in
-    (below 0x80000000 0x7F800000 0x7FC00000 (range 4) t b.bits (omega arith) h.0, refl, again 0x80000000 0x7F800000 0x7FC00000 refl b.bits t refl, held_each bs h.1)
+    (below 0x80000000 0x7F800000 0x7FC00000 (range 4) t b.bits (omega arith) (All-head Single b bs h), refl, again 0x80000000 0x7F800000 0x7FC00000 refl b.bits t refl, held_each bs (All-tail Single b bs h))
 
-same_each : (bs : List F32Bits) → Each bs → map (of_bits binary32) (written bs) ≡ map float_of bs
+same_each : (bs : List (FloatBits ℕ)) → All Single bs → map (of_bits binary32) (written bs) ≡ map float_of bs
 same_each [] h = refl
-same_each (b ∷ bs) h = λ i. floats_are_their_bits_lem.single_same b.bits h.0 i ∷ same_each bs h.1 i
+same_each (b ∷ bs) h = λ i. same binary32 b.bits (All-head Single b bs h) i ∷ same_each bs (All-tail Single b bs h) i
 
-pub read_back : (bs : List F32Bits) → Each bs → ReadBack (replicate (length bs) f32) bs
+pub read_back : (bs : List (FloatBits ℕ)) → All Single bs → ReadBack (replicate (length bs) f32) bs
 read_back bs h = record {
   back = λ rest.
       let fs = replicate (length bs) f32 in
@@ -41,7 +42,7 @@ read_back bs h = record {
   same = same_each bs h;
 }
 
-held_double : (b : F64Bits) → b.bits < 2 ^ 64 → Held (f64 ∷ []) (double b.bits ∷ [])
+held_double : (b : FloatBits ℕ) → b.bits < 2 ^ 64 → Held (f64 ∷ []) (double b.bits ∷ [])
 unfolding Held
 held_double b h =
     let t = ltb 0x7FF0000000000000 (b.bits % 0x8000000000000000) in (
@@ -51,12 +52,12 @@ held_double b h =
       tt,
     )
 
-double_back : (b : F64Bits) → b.bits < 2 ^ 64 → DoubleBack b
+double_back : (b : FloatBits ℕ) → b.bits < 2 ^ 64 → DoubleBack b
 double_back b h = record {
   back = λ rest.
       let ns = double b.bits ∷ [] in
       fields_back (f64 ∷ []) ns (field_bytes (f64 ∷ []) ns) rest (fields_written (f64 ∷ []) ns (held_double b h));
-  same = floats_are_their_bits_lem.double_same b.bits h;
+  same = same binary64 b.bits h;
 }
 
 pub floats_read_back_lem : FloatsReadBack
