@@ -1,40 +1,29 @@
 //! Sources and sinks at their ends: short counts, device numbers, full buffers and blocks.
 use exr_data::bits_16::F16;
-use exr_error::stop::Stop;
+use exr_error::stop::{Full, Stop};
 use exr_io::number::{read_le, write_le};
 use exr_io::sequence_end::has_come;
 use exr_peek::peek_read::PeekRead;
-use exr_read::read::{read_byte, read_exact};
+use exr_read::read::{Short, read_byte, read_exact};
 use exr_sink::block::Block;
 use exr_sink::lent::LentBuffer;
 use exr_sink::write::write_all;
 use exr_source::chain::Chain;
 use exr_source::held::HeldBytes;
-use std::test::Fail;
-
-fn ended(stop: Stop) -> bool {
-    match stop {
-        Stop::End => true,
-        Stop::Device(_) => false,
-    }
-}
 
 #[test]
-fn a_chain_is_read_across_its_joint(rt: HostRuntime) -> Result<(), Fail> {
+fn a_chain_is_read_across_its_joint(rt: HostRuntime) {
     let mut chain = Chain::new(HeldBytes::new(&[1, 2]), HeldBytes::new(&[3, 4, 5]));
     let mut buffer = [9u8; 4];
     assert!(rt; read_exact(&mut chain, &mut buffer).is_ok());
     assert_eq!(rt; buffer, [1, 2, 3, 4]);
     let mut rest = [9u8; 3];
-    match read_exact(&mut chain, &mut rest) {
-        Ok(()) => Err(Fail::new("two bytes are missing")),
-        Err(short) => {
-            assert!(rt; ended(short.stop));
-            assert_eq!(rt; short.got, 1);
-            assert_eq!(rt; rest, [5, 9, 9]);
-            Ok(())
-        }
-    }
+    let short = Short {
+        stop: Stop::End,
+        got: 1,
+    };
+    assert!(rt; read_exact(&mut chain, &mut rest) == Err(short));
+    assert_eq!(rt; rest, [5, 9, 9]);
 }
 
 #[test]
@@ -48,33 +37,20 @@ fn a_kept_byte_is_given_once(rt: HostRuntime) {
 }
 
 #[test]
-fn a_buffer_takes_its_length(rt: HostRuntime) -> Result<(), Fail> {
+fn a_buffer_takes_its_length(rt: HostRuntime) {
     let mut buffer = [0u8; 3];
     let mut sink = LentBuffer::new(&mut buffer);
-    match write_all(&mut sink, &[1, 2, 3, 4]) {
-        Ok(()) => Err(Fail::new("three bytes fit")),
-        Err(full) => {
-            assert_eq!(rt; full.number, 1);
-            Ok(())
-        }
-    }?;
+    assert!(rt; write_all(&mut sink, &[1, 2, 3, 4]) == Err(Full { number: 1 }));
     assert_eq!(rt; sink.count(), 3);
     assert_eq!(rt; buffer, [1, 2, 3]);
-    Ok(())
 }
 
 #[test]
-fn a_block_takes_4096_bytes(rt: HostRuntime) -> Result<(), Fail> {
+fn a_block_takes_4096_bytes(rt: HostRuntime) {
     let mut block = Block::new();
     assert!(rt; write_all(&mut block, &[1u8; 4096]).is_ok());
     assert_eq!(rt; block.taken().len(), 4096);
-    match write_le(&mut block, F16 { bits: 1 }) {
-        Ok(()) => Err(Fail::new("the block is full")),
-        Err(full) => {
-            assert_eq!(rt; full.number, 2);
-            Ok(())
-        }
-    }
+    assert!(rt; write_le(&mut block, F16 { bits: 1 }) == Err(Full { number: 2 }));
 }
 
 #[test]

@@ -2,17 +2,16 @@
 //! type does not have it.
 #![tactic(auto)]
 
+// One function for each pair of types that the ported crate names: each is one call of std's
+// `TryFrom`, whose law holds for every pair, and a generic function here would only repeat it.
+
 ghost use Rattle.exr_convert.specs.Conversions.{Nonnegative, Fitting, FittingI32};
 
 /// The same number as a usize, or none if it is negative.
-pub fn i32_to_usize(value: i32) -> Option<usize>
-    ensures { Nonnegative value result }
+pub fn i32_to_usize(signed: i32) -> Option<usize>
+    ensures { Nonnegative signed result }
 {
-    if value < 0 {
-        None
-    } else {
-        Some(value as usize)
-    }
+    usize::try_from(signed).ok()
 }
 
 /// The same number as a u32, or none if it is 2^32 or more.
@@ -37,11 +36,10 @@ pub fn u64_to_usize(value: u64) -> Option<usize>
 }
 
 /// The same number as a usize: never none.
-pub fn u32_to_usize(value: u32) -> Option<usize>
-    ensures { Fitting 64 value result }
+pub fn u32_to_usize(word: u32) -> Option<usize>
+    ensures { Fitting 64 word result }
 {
-    let wide = value as usize;
-    Some(wide)
+    usize::try_from(word).ok()
 }
 
 /// The same number as an i32, or none if it is 2^31 or more.

@@ -53,36 +53,9 @@ error_of n = cond (n == 8 || n == 26) error.NotSupported (cond (n == 19 || n == 
 
 -- the stop that a refusal tells: with 19 and 20 only
 abbrev pub stop_of : Refusal → Option ℕ
-stop_of InvalidName = None
-stop_of InvalidKind = None
-stop_of KnownKind = None
-stop_of NegativeSize = None
-stop_of TooLarge = None
-stop_of MissingBytes = None
-stop_of UnknownCode = None
-stop_of UnknownCompression = None
-stop_of InvalidChannelName = None
-stop_of InvalidLength = None
-stop_of BoxOutOfRange = None
-stop_of InvalidSides = None
-stop_of InvalidTimeCode = None
-stop_of RepeatedName = None
-stop_of TooManyAttributes = None
-stop_of HeaderTooLarge = None
-stop_of AbsentName = None
-stop_of SourceEnded = None
 stop_of (SourceFailed s) = Some s
 stop_of (SinkFull s) = Some s
-stop_of NoChannels = None
-stop_of ZeroSampling = None
-stop_of SamplingNotAllowed = None
-stop_of SamplingPosition = None
-stop_of SamplingSize = None
-stop_of SamplingNotSupported = None
-stop_of RepeatedChannel = None
-stop_of ChannelOrder = None
-stop_of InvalidTileSize = None
-stop_of EmptyTextVector = None
+stop_of _ = None
 
 -- how a source that stops is answered
 abbrev pub ended : Stop → Refusal

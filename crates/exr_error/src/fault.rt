@@ -5,7 +5,7 @@ use crate::refusal::Refusal;
 /// What a refused call tells: the refusal, how many attributes the call had
 /// finished before, and how many bytes came from its source or went to its
 /// sink.
-#[derive(Clone, Copy)]
+#[derive(Clone, Copy, PartialEq, Eq)]
 pub struct Fault {
     pub refusal: Refusal,
     pub ordinal: usize,

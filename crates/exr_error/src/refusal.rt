@@ -6,7 +6,7 @@ use crate::stop::{Full, Stop};
 
 /// A question that was answered no. The cases stand in the order of their
 /// numbers, from 1 to 30.
-#[derive(Clone, Copy)]
+#[derive(Clone, Copy, PartialEq, Eq)]
 pub enum Refusal {
     /// 1: a name has 1 to 255 bytes, none zero.
     InvalidName,
@@ -72,7 +72,7 @@ pub enum Refusal {
 
 /// Where a question belongs: to the source or sink, to the name, kind and
 /// size of a record, to the fields of a value, or to the header's table.
-#[derive(Clone, Copy)]
+#[derive(Clone, Copy, PartialEq, Eq)]
 pub enum Layer {
     Device,
     Record,
@@ -81,7 +81,7 @@ pub enum Layer {
 }
 
 /// The variant of the Rust crate's error that a refusal stands for.
-#[derive(Clone, Copy)]
+#[derive(Clone, Copy, PartialEq, Eq)]
 pub enum Error {
     NotSupported,
     Invalid,
@@ -131,17 +131,35 @@ impl Refusal {
     pub fn layer(self) -> Layer
         ensures { result ≡ layer_of (number_of self) }
     {
-        let number = self.number();
-        if number <= 5 {
-            Layer::Record
-        } else if number <= 13 {
-            Layer::Value
-        } else if number <= 17 {
-            Layer::Header
-        } else if number <= 20 {
-            Layer::Device
-        } else {
-            Layer::Value
+        match self {
+            Refusal::InvalidName
+            | Refusal::InvalidKind
+            | Refusal::KnownKind
+            | Refusal::NegativeSize
+            | Refusal::TooLarge => Layer::Record,
+            Refusal::MissingBytes
+            | Refusal::UnknownCode
+            | Refusal::UnknownCompression
+            | Refusal::InvalidChannelName
+            | Refusal::InvalidLength
+            | Refusal::BoxOutOfRange
+            | Refusal::InvalidSides
+            | Refusal::InvalidTimeCode
+            | Refusal::NoChannels
+            | Refusal::ZeroSampling
+            | Refusal::SamplingNotAllowed
+            | Refusal::SamplingPosition
+            | Refusal::SamplingSize
+            | Refusal::SamplingNotSupported
+            | Refusal::RepeatedChannel
+            | Refusal::ChannelOrder
+            | Refusal::InvalidTileSize
+            | Refusal::EmptyTextVector => Layer::Value,
+            Refusal::RepeatedName
+            | Refusal::TooManyAttributes
+            | Refusal::HeaderTooLarge
+            | Refusal::AbsentName => Layer::Header,
+            Refusal::SourceEnded | Refusal::SourceFailed(_) | Refusal::SinkFull(_) => Layer::Device,
         }
     }
 
@@ -149,9 +167,9 @@ impl Refusal {
     pub fn error(self) -> Error
         ensures { result ≡ error_of (number_of self) }
     {
-        match self.number() {
-            8 | 26 => Error::NotSupported,
-            19 | 20 => Error::Io,
+        match self {
+            Refusal::UnknownCompression | Refusal::SamplingNotSupported => Error::NotSupported,
+            Refusal::SourceFailed(_) | Refusal::SinkFull(_) => Error::Io,
             _ => Error::Invalid,
         }
     }
@@ -161,8 +179,7 @@ impl Refusal {
         ensures { result ≡ stop_of self }
     {
         match self {
-            Refusal::SourceFailed(stop) => Some(stop),
-            Refusal::SinkFull(stop) => Some(stop),
+            Refusal::SourceFailed(stop) | Refusal::SinkFull(stop) => Some(stop),
             _ => None,
         }
     }

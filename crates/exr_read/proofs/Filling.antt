@@ -1,5 +1,5 @@
 -- A buffer that is filled from its start in several requests.
-use Rattle.std.proofs.Common.{◌≡◌, ℕ, ◌+◌, ◌-◌, ◌<◌, ◌≤◌, Bool, true, false, leb, List, [], ◌++◌, length, take, drop, Ok, Err, Option, sym, refl, ap, ◌∙◌, arith, le-leb, leb-false, leb-true}
+use Rattle.std.proofs.Common.{◌≡◌, ℕ, ◌+◌, ◌-◌, ◌<◌, ◌≤◌, Bool, true, leb, List, [], ◌++◌, length, take, drop, Ok, Err, Option, sym, ap, ◌∙◌, arith, le-leb, leb-false, leb-true}
 use borrow.Rule.Slice.PartMut.{put_mid}
 use borrow.Author.Tests.{lt-leb}
 use Rattle.std.proofs.lemmas.List.{append-nil, append_assoc, length-take-le, length-drop, take-append-drop, drop-drop, drop_all, take_at, drop_at, take_rest}
@@ -9,7 +9,9 @@ use Rattle.layout.proofs.Parts.{take_add, lent}
 use Rattle.layout.specs.Streams.{SourceMeaning, source_of, after}
 use Rattle.exr_read.specs.declared.read.Short.{Short}
 use Rattle.exr_source.specs.Requests.{stop_at, laid, Given, Stopped}
-use Rattle.exr_read.specs.Fills.{short, all_or, come, Filled}
+use Rattle.exr_source.specs.Whole.{all_or}
+use Rattle.exr_source.proofs.Whole.{ok_whole, err_whole}
+use Rattle.exr_read.specs.Fills.{short, come, Filled}
 
 -- what is lent from f on ends where the buffer ends
 put_rest : {X : Type 0} (f : ℕ) (buffer part : List X) → put_mid f (length buffer - f) buffer part ≡ take f buffer ++ part
@@ -69,7 +71,7 @@ module _ (m : SourceMeaning) (buffer : Bytes) (f : ℕ) (m' : SourceMeaning) (bu
       let why : e ≡ stop_at m.stop = s.why ∙ ap (λ x. stop_at x.stop) i.left in
       let same : put_mid f (length buffer' - f) buffer' part ≡ buffer' = put_rest f buffer' part ∙ ap (λ x. take f buffer' ++ x) (s.laid_in ∙ take_rest buffer' f) ∙ take-append-drop f buffer' in
       record {
-        answer = ap (λ x. Err (record { stop = x; got = f })) why ∙ ap (λ n. Err (short m.stop n)) all ∙ sym (ap (λ b. all_or b m.stop (length m.bytes)) (lt-leb (length buffer) (length m.bytes) less));
+        answer = ap (λ x. Err (record { stop = x; got = f })) why ∙ ap (λ n. Err (short m.stop n)) all ∙ sym (ap (λ b. all_or b (short m.stop (length m.bytes))) (lt-leb (length buffer) (length m.bytes) less));
         laid_in = same ∙ i.laid_in ∙ ap (λ n. laid n m.bytes buffer) (sym so_far);
         left = s.left ∙ i.left ∙ ap (λ n. after n m) (sym so_far);
       }
@@ -80,20 +82,15 @@ module _ (m : SourceMeaning) (buffer : Bytes) (f : ℕ) (m' : SourceMeaning) (bu
       let enough : length buffer ≤ length m.bytes = omega (arith, i.there, n) in
       let so_far : come (length buffer) m ≡ f = omega (arith, n, enough) in
       record {
-        answer = sym (ap (λ b. all_or b m.stop (length m.bytes)) (le-leb (length buffer) (length m.bytes) enough));
+        answer = sym (ap (λ b. all_or b (short m.stop (length m.bytes))) (le-leb (length buffer) (length m.bytes) enough));
         laid_in = i.laid_in ∙ ap (λ n. laid n m.bytes buffer) (sym so_far);
         left = i.left ∙ ap (λ n. after n m) (sym so_far);
       }
 
 -- ---- what a filled buffer tells
 
-pub ok_all : (b : Bool) (x : Unit {0}) (s : Option ℕ) (n : ℕ) → Ok x ≡ all_or b s n → b ≡ true
-ok_all true x s n e = refl
-ok_all false x s n e = cc
-
-err_short : (b : Bool) (e : Short) (s : Option ℕ) (n : ℕ) → Err e ≡ all_or b s n → (b ≡ false) × (e ≡ short s n)
-err_short true e s n p = (cc, cc)
-err_short false e s n p = (refl, cc)
+pub ok_all : (b : Bool) (x : Unit {0}) (s : Option ℕ) (n : ℕ) → Ok x ≡ all_or b (short s n) → b ≡ true
+ok_all b x s n e = ok_whole b x (short s n) e
 
 -- it was filled: it holds the first bytes that were to come, and the others still are
 pub record Whole (m : SourceMeaning) (buffer : Bytes) (m' : SourceMeaning) (buffer' : Bytes) : Type 0 where
@@ -126,7 +123,7 @@ pub record Cut (m : SourceMeaning) (buffer : Bytes) (s : Short) (m' : SourceMean
 pub filled_cut : (m : SourceMeaning) (buffer : Bytes) (s : Short) (m' : SourceMeaning) (buffer' : Bytes) → Filled m buffer (Err s) m' buffer' → Cut m buffer s m'
 filled_cut m buffer s m' buffer' f =
     let n = length buffer in
-    let p = err_short (leb n (length m.bytes)) s m.stop (length m.bytes) f.answer in
+    let p = err_whole (leb n (length m.bytes)) s (short m.stop (length m.bytes)) f.answer in
     let less : length m.bytes < n = leb-false n (length m.bytes) p.0 in
     let all : come n m ≡ length m.bytes = omega (arith, less) in
     record {

@@ -1,5 +1,5 @@
 -- A buffer filled from a source, and the byte that comes next.
-use Rattle.std.specs.Prelude.{◌≡◌, ℕ, min, Bool, true, false, [], ◌∷◌, length, Ok, Err, Option, Result, nat_le}
+use Rattle.std.specs.Prelude.{◌≡◌, ℕ, min, [], ◌∷◌, length, Ok, Err, Option, Result, nat_le}
 use Rattle.exr_error.specs.declared.stop.Stop.{Stop}
 use Rattle.exr_error.specs.declared.fault.Fault.{Fault}
 use Rattle.exr_error.specs.Refusals.{ended}
@@ -7,6 +7,7 @@ use Rattle.layout.specs.Numbers.{Bytes}
 use Rattle.layout.specs.Streams.{SourceMeaning, after}
 use Rattle.exr_read.specs.declared.read.Short.{Short}
 use Rattle.exr_source.specs.Requests.{stop_at, laid}
+use Rattle.exr_source.specs.Whole.{all_or}
 
 abbrev pub short : Option ℕ → ℕ → Short
 short s n = record { stop = stop_at s; got = n }
@@ -15,18 +16,13 @@ short s n = record { stop = stop_at s; got = n }
 abbrev pub short_fault : Short → Fault
 short_fault s = record { refusal = ended s.stop; ordinal = 0; bytes = s.got }
 
--- whether all came, or the stop with the bytes that came
-abbrev pub all_or : Bool → Option ℕ → ℕ → Result (Unit {0}) Short
-all_or true s n = Ok tt
-all_or false s n = Err (short s n)
-
 -- so many bytes are wanted and so many come
 abbrev pub come : ℕ → SourceMeaning → ℕ
 come n m = min n (length m.bytes)
 
 -- n bytes are wanted: they all come, or all that are to come do, and then the stop
 abbrev pub wanted : ℕ → SourceMeaning → Result (Unit {0}) Short
-wanted n m = all_or (nat_le n (length m.bytes)) m.stop (length m.bytes)
+wanted n m = all_or (nat_le n (length m.bytes)) (short m.stop (length m.bytes))
 
 -- the buffer is filled from its start
 pub record Filled (m : SourceMeaning) (buffer : Bytes) (r : Result (Unit {0}) Short) (m' : SourceMeaning) (buffer' : Bytes) : Type 0 where

@@ -9,7 +9,7 @@ use exr_source::source::Source;
 
 /// A source stopped before all bytes that were wanted had come: its stop, and
 /// how many had come.
-#[derive(Clone, Copy)]
+#[derive(Clone, Copy, PartialEq, Eq)]
 pub struct Short {
     pub stop: Stop,
     pub got: usize,
@@ -25,6 +25,15 @@ impl From<Short> for Fault {
     }
 }
 
+/// A call that needs no count is stopped by the stop alone.
+impl From<Short> for Stop {
+    ghost from_gives = { λ s e. e ≡ s.stop };
+
+    fn from(short: Short) -> Stop {
+        short.stop
+    }
+}
+
 /// Fills the buffer from its start; each request is for the part still
 /// unfilled. Where the source stops first, answers the stop and how many
 /// bytes came: these stand at the buffer's start, and the rest of it stays.
@@ -32,15 +41,12 @@ pub fn read_exact<S: Source>(source: &mut S, buffer: &mut [u8]) -> Result<(), Sh
     ensures fills { Filled (S.means source.old) buffer.old result (S.means source.new) buffer.new }
     ensures kept { S.keeps source.old source.new }
 {
+    // a loop with a count, since the buffer is lent from its filled count on and a stop tells the count
     let mut filled = 0;
     while filled < buffer.len() {
         match source.read(&mut buffer[filled..]) {
-            Ok(k) => {
-                filled += k;
-            }
-            Err(stop) => {
-                return Err(Short { stop, got: filled });
-            }
+            Ok(k) => filled += k,
+            Err(stop) => return Err(Short { stop, got: filled }),
         }
     }
     Ok(())
@@ -53,8 +59,6 @@ pub fn read_byte<S: Source>(source: &mut S) -> Result<u8, Stop>
     ensures kept { S.keeps source.old source.new }
 {
     let mut one = [0u8; 1];
-    match read_exact(source, &mut one) {
-        Ok(()) => Ok(one[0]),
-        Err(short) => Err(short.stop),
-    }
+    read_exact(source, &mut one)?;
+    Ok(one[0])
 }

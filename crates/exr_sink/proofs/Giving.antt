@@ -1,46 +1,36 @@
 -- Bytes that a sink takes in several gifts.
-use Rattle.std.proofs.Common.{◌≡◌, ℕ, ◌+◌, ◌-◌, ◌<◌, ◌≤◌, min, ◌++◌, length, take, drop, Err, Result, sym, ap, ◌∙◌, append_assoc, arith}
+use Rattle.std.proofs.Common.{◌≡◌, ℕ, ◌-◌, min, ◌++◌, length, take, drop, Ok, Err, Result, sym, ap, ◌∙◌, arith, le-leb}
 use borrow.Author.Tests.{lt-leb}
-use Rattle.std.proofs.lemmas.List.{length-drop, take_rest}
+use Rattle.std.proofs.lemmas.List.{length-take-le, take_all, take_rest, take-append-drop}
 use Rattle.exr_error.specs.declared.stop.Full.{Full}
 use Rattle.layout.specs.Numbers.{Bytes}
 use Rattle.layout.specs.Streams.{SinkMeaning, sink_of, with}
-use Rattle.exr_sink.specs.Gifts.{full, all_or, Took, Refused, GaveAll}
-use Rattle.layout.proofs.Parts.{take_add, lent}
+use Rattle.layout.proofs.Parts.{lent}
+use Rattle.exr_source.specs.Whole.{all_or}
+use Rattle.exr_sink.specs.Gifts.{full, Took, Refused, GaveAll}
+use Rattle.exr_sink.proofs.Runs.{gave_on, gave_same, with_none}
 
--- where a loop that gives the bytes has come to
-pub record Giving (m : SinkMeaning) (bs : Bytes) (f : ℕ) (m' : SinkMeaning) : Type 0 where
-  pub given : f ≤ length bs
-  pub room : f ≤ m.room
-  pub after : m' ≡ with f bs m
+-- the bytes of one gift that were taken were all taken
+took_all : (m : SinkMeaning) (bs : Bytes) (k : ℕ) (m' : SinkMeaning) → Took m bs k m' → GaveAll m (take k bs) (Ok tt) m'
+took_all m bs k m' t =
+    let l : length (take k bs) ≡ k = length-take-le k bs t.given in
+    let n : min (length (take k bs)) m.room ≡ k = omega (arith, l, t.room) in
+    record {
+      answer = sym (ap (λ b. all_or b (full m.stop)) (le-leb (length (take k bs)) m.room (omega (arith, l, t.room))));
+      after = t.after ∙ ap (λ x. sink_of (m.taken ++ x) (m.room - k) m.stop) (sym (take_all k (take k bs) (omega (arith, l)))) ∙ ap (λ j. with j (take k bs) m) (sym n);
+    }
 
-module _ (m : SinkMeaning) (bs : Bytes) (f : ℕ) (m' : SinkMeaning) (i : Giving m bs f m') where
-  rest_is : lent f bs ≡ drop f bs
-  rest_is = take_rest bs f
+-- what comes of the rest comes of all
+pub took_on : (m : SinkMeaning) (bs : Bytes) (k : ℕ) (m' : SinkMeaning) (r : Result (Unit {0}) Full) (m'' : SinkMeaning) → Took m bs k m' → GaveAll m' (lent k bs) r m'' → GaveAll m bs r m''
+took_on m bs k m' r m'' t g =
+    let h : GaveAll m' (drop k bs) r m'' = gave_same m' (lent k bs) (drop k bs) r m'' (take_rest bs k) g in
+    gave_same m (take k bs ++ drop k bs) bs r m'' (take-append-drop k bs) (gave_on m (take k bs) (drop k bs) r m' m'' (took_all m bs k m' t) h)
 
-  rest_length : length (lent f bs) ≡ length bs - f
-  rest_length = ap length rest_is ∙ length-drop f bs
-
-  room_is : m'.room ≡ m.room - f
-  room_is = ap (λ x. x.room) i.after
-
-  pub giving_more : (k : ℕ) (m'' : SinkMeaning) → Took m' (lent f bs) k m'' → Giving m bs (f + k) m''
-  giving_more k m'' t =
-      let joined : (m.taken ++ take f bs) ++ take k (lent f bs) ≡ m.taken ++ take (f + k) bs = rw (rest_is, take_add f k bs, append_assoc) in
-      let left : m.room - f - k ≡ m.room - (f + k) = omega arith in
-      record {
-        given = omega (arith, i.given, t.given, rest_length);
-        room = omega (arith, i.room, t.room, room_is);
-        after = t.after ∙ ap (with k (lent f bs)) i.after ∙ ap (λ x. sink_of x (m.room - f - k) m.stop) joined ∙ ap (λ n. sink_of (m.taken ++ take (f + k) bs) n m.stop) left;
-      }
-
-  pub giving_refused : (e : Full) (m'' : SinkMeaning) (r : Result (Unit {0}) Full) → Refused m' (lent f bs) e m'' → r ≡ Err e → GaveAll m bs r m''
-  giving_refused e m'' r s re =
-      let all : f ≡ m.room = omega (arith, i.room, s.none, room_is) in
-      let short : m.room < length bs = omega (arith, s.given, rest_length, all) in
-      let so_far : min (length bs) m.room ≡ f = omega (arith, all, short) in
-      let why : e ≡ full m.stop = s.why ∙ ap (λ x. full x.stop) i.after in
-      record {
-        answer = re ∙ ap Err why ∙ sym (ap (λ b. all_or b m.stop) (lt-leb (length bs) m.room short));
-        after = s.after ∙ i.after ∙ ap (λ n. with n bs m) (sym so_far);
-      }
+-- a gift that was refused is all that comes
+pub refused_all : (m : SinkMeaning) (bs : Bytes) (e : Full) (m' : SinkMeaning) (r : Result (Unit {0}) Full) → Refused m bs e m' → r ≡ Err e → GaveAll m bs r m'
+refused_all m bs e m' r s re =
+    let n : min (length bs) m.room ≡ 0 = omega (arith, s.none) in
+    record {
+      answer = re ∙ ap Err s.why ∙ sym (ap (λ b. all_or b (full m.stop)) (lt-leb (length bs) m.room (omega (arith, s.given, s.none))));
+      after = s.after ∙ with_none m bs ∙ ap (λ k. with k bs m) (sym n);
+    }

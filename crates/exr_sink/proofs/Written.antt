@@ -4,11 +4,12 @@ use Rattle.exr_error.specs.declared.refusal.Refusal.{Refusal}
 use Rattle.exr_error.specs.declared.stop.Full.{Full}
 use Rattle.layout.specs.Numbers.{Bytes}
 use Rattle.layout.specs.Streams.{SinkMeaning}
-use Rattle.exr_sink.specs.Gifts.{all_or, GaveAll}
+use Rattle.exr_source.specs.Whole.{all_or}
+use Rattle.exr_sink.specs.Gifts.{full, GaveAll}
 use Rattle.exr_sink.proofs.Runs.{gave_short}
 use Rattle.exr_sink.specs.Writing.{refused_by, taken_or, as_refusal, Wrote}
 
-as_refusal_lem : (t : Bool) (s : ℕ) → as_refusal (all_or t s) ≡ taken_or t s
+as_refusal_lem : (t : Bool) (s : ℕ) → as_refusal (all_or t (full s)) ≡ taken_or t s
 as_refusal_lem true s = refl
 as_refusal_lem false s = refl
 

@@ -1,8 +1,9 @@
 -- One gift of bytes to a sink, and all of some bytes.
-use Rattle.std.specs.Prelude.{◌≡◌, ℕ, ◌<◌, ◌≤◌, min, Bool, true, false, length, Ok, Err, Result, nat_le}
+use Rattle.std.specs.Prelude.{◌≡◌, ℕ, ◌<◌, ◌≤◌, min, length, Ok, Err, Result, nat_le}
 use Rattle.exr_error.specs.declared.stop.Full.{Full}
 use Rattle.layout.specs.Numbers.{Bytes}
 use Rattle.layout.specs.Streams.{SinkMeaning, with}
+use Rattle.exr_source.specs.Whole.{all_or}
 
 abbrev pub full : ℕ → Full
 full s = record { number = s }
@@ -25,12 +26,7 @@ abbrev pub Gave : SinkMeaning → Bytes → Result ℕ Full → SinkMeaning → 
 Gave m bs (Ok k) m' = Took m bs k m'
 Gave m bs (Err e) m' = Refused m bs e m'
 
--- whether all were taken, or the stop
-abbrev pub all_or : Bool → ℕ → Result (Unit {0}) Full
-all_or true s = Ok tt
-all_or false s = Err (full s)
-
 -- all of some bytes were given: they were taken, or the first ones were, as many as it takes, and then the stop was answered
 pub record GaveAll (m : SinkMeaning) (bs : Bytes) (r : Result (Unit {0}) Full) (m' : SinkMeaning) : Type 0 where
-  pub answer : r ≡ all_or (nat_le (length bs) m.room) m.stop
+  pub answer : r ≡ all_or (nat_le (length bs) m.room) (full m.stop)
   pub after : m' ≡ with (min (length bs) m.room) bs m

@@ -1,8 +1,9 @@
-ghost use Rattle.std.specs.Prelude.{◌≡◌, ◌-◌, ◌≤◌, take};
+ghost use Rattle.std.specs.Prelude.{◌≡◌, ◌-◌, [], length};
 ghost use Rattle.std.proofs.Common.{lit≤};
 ghost use Rattle.layout.specs.Streams.{sink_of};
 
 use crate::sink::Sink;
+use arrayvec::ArrayVec;
 use exr_error::stop::Full;
 
 /// How many bytes a block takes.
@@ -11,32 +12,29 @@ pub const BLOCK_SIZE: usize = 4096;
 /// A block of 4,096 bytes inside the sink. It stops with 2.
 #[derive(Drop)]
 pub struct Block {
-    bytes: [u8; BLOCK_SIZE],
-    len: usize,
-    ghost within: { len ≤ 4096 },
+    bytes: ArrayVec<u8, BLOCK_SIZE>,
 }
 
 impl Block {
     /// With nothing taken.
     pub fn new() -> Self
-        ensures { result.len ≡ 0 }
+        ensures { result.bytes.items ≡ [] }
     {
         Block {
-            bytes: [0; BLOCK_SIZE],
-            len: 0,
+            bytes: ArrayVec::new(),
         }
     }
 
     /// The bytes that it has taken.
     pub fn taken(&self) -> &[u8]
-        ensures { result.now ≡ take self.now.len self.now.bytes }
+        ensures { result.now ≡ self.now.bytes.items }
     {
-        &self.bytes[0..self.len]
+        self.bytes.as_slice()
     }
 }
 
 impl Sink for Block {
-    ghost means = { λ s. sink_of (take s.len s.bytes) (4096 - s.len) 2 };
+    ghost means = { λ s. sink_of s.bytes.items (4096 - length s.bytes.items) 2 };
 
     ghost proper = { λ _. record { least = lit≤ tt; most = lit≤ tt } };
 
@@ -45,18 +43,15 @@ impl Sink for Block {
     ghost steady = { record { same = λ _. tt; on = λ _ _ _ _ _. tt } };
 
     fn write(&mut self, bytes: &[u8]) -> Result<usize, Full> {
-        let n = bytes.len();
-        if n == 0 {
+        if bytes.is_empty() {
             return Ok(0);
         }
-        let at = self.len;
-        if at >= BLOCK_SIZE {
+        let room = self.bytes.remaining_capacity();
+        if room == 0 {
             return Err(Full { number: 2 });
         }
-        let k = n.min(BLOCK_SIZE - at);
-        let end = at + k;
-        self.bytes[at..end].copy_from_slice(&bytes[0..k]);
-        self.len = end;
+        let k = bytes.len().min(room);
+        self.bytes.try_extend_from_slice(&bytes[..k]).unwrap();
         Ok(k)
     }
 }

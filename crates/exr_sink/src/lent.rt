@@ -1,10 +1,6 @@
-ghost use Rattle.std.specs.Prelude.{◌≡◌, ◌-◌, length, take};
-ghost use Rattle.std.proofs.Common.{lit≤};
-ghost use Rattle.layout.specs.Streams.{sink_of};
-ghost use Rattle.exr_sink.specs.Lent.{LentKept, lent_steady};
+ghost use Rattle.std.specs.Prelude.{◌≡◌, ◌≤◌, length};
 
-use crate::sink::Sink;
-use exr_error::stop::Full;
+pub mod filling;
 
 /// A lent buffer, written from its start. It takes as many bytes as it has,
 /// stays as it was behind the bytes taken, and stops with 1.
@@ -12,6 +8,7 @@ use exr_error::stop::Full;
 pub struct LentBuffer<'a> {
     buffer: &'a mut [u8],
     at: usize,
+    ghost within: { at ≤ length buffer.now },
 }
 
 impl<'a> LentBuffer<'a> {
@@ -27,34 +24,6 @@ impl<'a> LentBuffer<'a> {
     pub fn count(&self) -> usize
         ensures { result ≡ self.now.at }
     {
-        let count = self.at;
-        count
-    }
-}
-
-impl<'a> Sink for LentBuffer<'a> {
-    ghost means = { λ s. sink_of (take s.at s.buffer.now) (length s.buffer.now - s.at) 1 };
-
-    ghost proper = { λ _. record { least = lit≤ tt; most = lit≤ tt } };
-
-    ghost keeps = { LentKept };
-
-    ghost steady = { lent_steady };
-
-    fn write(&mut self, bytes: &[u8]) -> Result<usize, Full> {
-        let n = bytes.len();
-        if n == 0 {
-            return Ok(0);
-        }
-        let at = self.at;
-        let len = self.buffer.len();
-        if at >= len {
-            return Err(Full { number: 1 });
-        }
-        let k = n.min(len - at);
-        let end = at + k;
-        self.buffer[at..end].copy_from_slice(&bytes[0..k]);
-        self.at = end;
-        Ok(k)
+        self.at
     }
 }

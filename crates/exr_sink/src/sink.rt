@@ -12,7 +12,8 @@ pub trait Sink {
     // its stop is from 1 to 255
     ghost proper: { (s : Self) → Stopping (means s) };
 
-    // what of it stays, whatever it is given; each sink has it to itself, and it goes on from gift to gift
+    // what of it stays, whatever it is given; each sink has it to itself, and it goes on from gift to gift;
+    // a clause `kept` of each writer, and no ghost field, since it relates the state before with the state after
     ghost keeps: { Self → Self → Type 0 };
 
     ghost steady: { Steady keeps };

@@ -10,10 +10,10 @@ pub fn write_all<W: Sink>(sink: &mut W, bytes: &[u8]) -> Result<(), Full>
     ensures takes { GaveAll (W.means sink.old) bytes.now result (W.means sink.new) }
     ensures kept { W.keeps sink.old sink.new }
 {
-    let mut given = 0;
-    while given < bytes.len() {
-        let k = sink.write(&bytes[given..])?;
-        given += k;
+    let mut rest = bytes;
+    while !rest.is_empty() {
+        let k = sink.write(rest)?;
+        rest = &rest[k..];
     }
     Ok(())
 }

@@ -1,3 +1,4 @@
 pub mod Requests
 pub mod Keeping
 pub mod Properly
+pub mod Whole

@@ -34,9 +34,8 @@ impl<F: Source, G: Source> Source for Chain<F, G> {
 
     fn read(&mut self, buffer: &mut [u8]) -> Result<usize, Stop> {
         match self.first.read(buffer) {
-            Ok(k) => Ok(k),
-            Err(Stop::Device(number)) => Err(Stop::Device(number)),
             Err(Stop::End) => self.second.read(buffer),
+            answer => answer,
         }
     }
 }

@@ -2,7 +2,6 @@ ghost use Rattle.std.specs.Prelude.{◌≡◌, true, None, refl};
 ghost use Rattle.layout.specs.Numbers.{all_bytes};
 ghost use Rattle.layout.specs.Streams.{source_of};
 
-use crate::bytes::each_byte;
 use crate::source::Source;
 use exr_error::stop::Stop;
 
@@ -19,7 +18,6 @@ impl<'a> HeldBytes<'a> {
     pub fn new(bytes: &'a [u8]) -> Self
         ensures { result.rest.now ≡ bytes.now }
     {
-        each_byte(bytes);
         HeldBytes { rest: bytes }
     }
 }
@@ -34,17 +32,16 @@ impl<'a> Source for HeldBytes<'a> {
     ghost steady = { record { same = λ _. tt; on = λ _ _ _ _ _. tt } };
 
     fn read(&mut self, buffer: &mut [u8]) -> Result<usize, Stop> {
-        let asked = buffer.len();
-        let there = self.rest.len();
-        if asked == 0 {
+        if buffer.is_empty() {
             return Ok(0);
         }
-        if there == 0 {
+        if self.rest.is_empty() {
             return Err(Stop::End);
         }
-        let k = asked.min(there);
-        buffer[0..k].copy_from_slice(&self.rest[0..k]);
-        self.rest = &self.rest[k..];
+        let k = buffer.len().min(self.rest.len());
+        let (given, rest) = self.rest.split_at(k);
+        buffer[..k].copy_from_slice(given);
+        self.rest = rest;
         Ok(k)
     }
 }

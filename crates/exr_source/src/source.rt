@@ -12,7 +12,8 @@ pub trait Source {
     // its bytes are below 256, a device number is from 1 to 255
     ghost proper: { (s : Self) → Proper (means s) };
 
-    // what of it stays, whatever it gives; each source has it to itself, and it goes on from request to request
+    // what of it stays, whatever it gives; each source has it to itself, and it goes on from request to request;
+    // a clause `kept` of each reader, and no ghost field, since it relates the state before with the state after
     ghost keeps: { Self → Self → Type 0 };
 
     ghost steady: { Steady keeps };

@@ -25,17 +25,14 @@ impl<S: Source> Source for PeekRead<S> {
         ensures kept { PeekKept S.means S.keeps self.old self.new }
         ensures alone { Alone self.old buffer.old result self.new }
     {
-        if buffer.len() == 0 {
+        if buffer.is_empty() {
             return Ok(0);
         }
-        match self.peeked {
-            None => self.inner.read(buffer),
-            Some(byte) => {
-                buffer[0] = byte;
-                self.peeked = None;
-                Ok(1)
-            }
-        }
+        let Some(byte) = self.peeked.take() else {
+            return self.inner.read(buffer);
+        };
+        buffer[0] = byte;
+        Ok(1)
     }
 }
 

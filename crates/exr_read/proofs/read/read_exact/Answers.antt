@@ -3,21 +3,16 @@ use Rattle.exr_read.proofs.Filling.{filling_more, filling_stopped, filling_done}
 use Rattle.exr_read.proofs.read.read_exact.Goals as goal
 
 pub loop-filled-preserved : goal.loop-filled-preserved
-loop-filled-preserved g c = (
-  filling_more _ _ _ _ _ c.loop-filled.invariant.0 _ _ _ c.in-Ok.ensures.gives,
-  g.S.Source.steady.on _ _ _ c.loop-filled.invariant.1 c.in-Ok.ensures.kept,
-)
+loop-filled-preserved g c = record {
+  fills = filling_more _ _ _ _ _ c.loop-filled.invariant.fills _ _ _ c.in-Ok.ensures.gives;
+  kept = g.S.Source.steady.on _ _ _ c.loop-filled.invariant.kept c.in-Ok.ensures.kept;
+}
 
 pub returns-in-Err : goal.returns-in-Err
-returns-in-Err g c =
-    record {
-      fills = filling_stopped _ _ _ _ _ c.loop-filled.invariant.0 _ _ _ c.in-Err.ensures.gives;
-      kept = g.S.Source.steady.on _ _ _ c.loop-filled.invariant.1 c.in-Err.ensures.kept;
-    }
+returns-in-Err g c = record {
+  fills = filling_stopped _ _ _ _ _ c.loop-filled.invariant.fills _ _ _ c.in-Err.ensures.gives;
+  kept = g.S.Source.steady.on _ _ _ c.loop-filled.invariant.kept c.in-Err.ensures.kept;
+}
 
-pub returns : goal.returns
-returns g c =
-    record {
-      fills = filling_done _ _ _ _ _ c.loop-filled.invariant.0 (omega (arith, c.loop-filled-test.false, c.loop-filled.auto.buffer));
-      kept = c.loop-filled.invariant.1;
-    }
+pub returns-clause-fills : goal.returns-clause-fills
+returns-clause-fills g c = filling_done _ _ _ _ _ c.loop-filled.invariant.fills (omega (arith, c.loop-filled-test.false, c.loop-filled.auto.buffer))

@@ -1,11 +1,15 @@
-use Rattle.std.proofs.Common.{◌-◌, length}
-use Rattle.exr_sink.proofs.Giving.{Giving}
+use Rattle.std.proofs.Common.{length, Result}
+use Rattle.exr_error.specs.declared.stop.Full.{Full}
+use Rattle.layout.specs.Streams.{SinkMeaning}
+use Rattle.exr_sink.specs.Gifts.{GaveAll}
 use Rattle.exr_sink.proofs.write.write_all.Given as goal
 
-abbrev pub invariant-loop-given : goal.invariant-loop-given
-invariant-loop-given g l =
-    Giving (g.W.Sink.means l.initial.sink) l.bytes l.given (g.W.Sink.means l.sink)
-    × g.W.Sink.keeps l.initial.sink l.sink
+-- what comes of the rest comes of all
+abbrev pub invariant-loop-rest : goal.invariant-loop-rest
+invariant-loop-rest g l = record {
+  takes : (r : Result (Unit {0}) Full) (m : SinkMeaning) → GaveAll (g.W.Sink.means l.sink) l.rest r m → GaveAll (g.W.Sink.means l.initial.sink) l.bytes r m;
+  kept : g.W.Sink.keeps l.initial.sink l.sink;
+}
 
-abbrev pub decreases-loop-given : goal.decreases-loop-given
-decreases-loop-given g l = length l.bytes - l.given
+abbrev pub decreases-loop-rest : goal.decreases-loop-rest
+decreases-loop-rest g l = length l.rest
