@@ -31,8 +31,6 @@ pub fn read_le<D: Data, S: Source>(source: &mut S) -> Result<D, Stop>
     // The checker: a parameter "cannot be used in a computed constant", so not
     // [0u8; D::BYTE_SIZE].
     let mut bytes = [0u8; 8];
-    match read_exact(source, &mut bytes[..D::BYTE_SIZE]) {
-        Ok(()) => Ok(D::from_word(u64::from_le_bytes(bytes))),
-        Err(short) => Err(short.stop),
-    }
+    read_exact(source, &mut bytes[..D::BYTE_SIZE])?;
+    Ok(D::from_word(u64::from_le_bytes(bytes)))
 }
