@@ -15,12 +15,20 @@ double_of b = from_bits binary64 b.bits
 abbrev pub single_of : Float → FloatBits ℕ
 single_of x = record { bits = to_bits binary32 x }
 
+abbrev pub wide_of : Float → FloatBits ℕ
+wide_of x = record { bits = to_bits binary64 x }
+
 -- bits as they are held, and as they are written
 abbrev pub held : List (FloatBits ℕ) → List ℕ
 held bs = map (λ b. b.bits) bs
 
 abbrev pub written : List (FloatBits ℕ) → List ℕ
 written bs = map (λ b. single b.bits) bs
+
+-- both ways between floats and bits are these
+pub record OneByTheOther {F B : Type 0} (bits : F → B) (floats : B → F) (bits_of : F → B) (floats_of : B → F) : Type 0 where
+  pub to : (x : F) → bits_of x ≡ bits x
+  pub from : (b : B) → floats_of b ≡ floats b
 
 -- ---- the layout's floats are the floats of the standard
 
