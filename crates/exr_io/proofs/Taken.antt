@@ -1,6 +1,6 @@
 -- A number taken from a source through the front of an array of eight bytes.
-use Rattle.std.proofs.Common.{◌≡◌, ℕ, zero, suc, ◌-◌, ◌%◌, ◌≤◌, leb, ◌∷◌, ◌++◌, length, take, drop, Ok, sym, refl, ap, ◌∙◌, subst, arith, le-leb, leb-true}
-use Rattle.std.proofs.lemmas.List.{length-replicate, length-take-le, length-append, drop_all, append-nil}
+use Rattle.std.proofs.Common.{◌≡◌, ℕ, ◌-◌, ◌%◌, ◌≤◌, leb, ◌++◌, length, take, drop, Ok, sym, ap, ◌∙◌, subst, arith, le-leb, leb-true}
+use Rattle.std.proofs.lemmas.List.{length-replicate, take-replicate, drop-replicate, length-take-le, length-append, drop_all, append-nil}
 use Rattle.layout.specs.Numbers.{Bytes, EachByte, whole, range}
 use Rattle.layout.specs.Streams.{SourceMeaning, after}
 use Rattle.exr_source.specs.Requests.{laid}
@@ -8,19 +8,6 @@ use Rattle.exr_read.proofs.Filling.{ok_all}
 use Rattle.exr_read.specs.Fills.{come, Filled}
 use Rattle.exr_io.specs.Reads.{one_or, ReadLe}
 use Rattle.exr_io.proofs.Words.{zeros, eight_whole, whole_eight, whole_before_zeros, whole_small}
-
-length-zeros : (k : ℕ) → length (zeros k) ≡ k
-length-zeros k = length-replicate k 0
-
-take-zeros : (w k : ℕ) → w ≤ k → take w (zeros k) ≡ zeros w
-take-zeros zero k h = refl
-take-zeros (suc w) zero h = absurd (omega arith)
-take-zeros (suc w) (suc k) h = ap (λ t. 0 ∷ t) (take-zeros w k (omega arith))
-
-drop-zeros : (w k : ℕ) → w ≤ k → drop w (zeros k) ≡ zeros (k - w)
-drop-zeros zero k h = let n : k ≡ k - 0 = omega arith in ap (λ n. zeros n) n
-drop-zeros (suc w) zero h = absurd (omega arith)
-drop-zeros (suc w) (suc k) h = let n : k - w ≡ suc k - suc w = omega arith in drop-zeros w k (omega arith) ∙ ap (λ n. zeros n) n
 
 -- the part lent for the number
 abbrev pub lent_front : ℕ → Bytes
@@ -31,10 +18,10 @@ module _ (w size : ℕ) (same : size ≡ w) (few : w ≤ 8) (m : SourceMeaning) 
   array = part ++ drop size (zeros 8)
 
   lent_is : lent_front size ≡ zeros w
-  lent_is = ap (λ n. take n (zeros 8)) same ∙ take-zeros w 8 few
+  lent_is = ap (λ n. take n (zeros 8)) same ∙ take-replicate w 8 0 few
 
   lent_long : length (lent_front size) ≡ w
-  lent_long = ap length lent_is ∙ length-zeros w
+  lent_long = ap length lent_is ∙ length-replicate w 0
 
   pub enough : w ≤ length m.bytes
   enough = subst (λ n. n ≤ length m.bytes) lent_long (leb-true (length (lent_front size)) (length m.bytes) (ok_all (leb (length (lent_front size)) (length m.bytes)) x m.stop (length m.bytes) f.answer))
@@ -49,7 +36,7 @@ module _ (w size : ℕ) (same : size ≡ w) (few : w ≤ 8) (m : SourceMeaning) 
       ∙ append-nil (take w m.bytes)
 
   behind : drop size (zeros 8) ≡ zeros (8 - w)
-  behind = ap (λ n. drop n (zeros 8)) same ∙ drop-zeros w 8 few
+  behind = ap (λ n. drop n (zeros 8)) same ∙ drop-replicate w 8 0
 
   array_is : array ≡ take w m.bytes ++ zeros (8 - w)
   array_is = ap (λ t. t ++ drop size (zeros 8)) part_is ∙ ap (λ t. take w m.bytes ++ t) behind
@@ -57,7 +44,7 @@ module _ (w size : ℕ) (same : size ≡ w) (few : w ≤ 8) (m : SourceMeaning) 
   array_long : length array ≡ 8
   array_long =
       ap length array_is ∙ length-append (take w m.bytes) (zeros (8 - w))
-      ∙ omega (arith, length-take-le w m.bytes enough, length-zeros (8 - w), few)
+      ∙ omega (arith, length-take-le w m.bytes enough, length-replicate {A = ℕ} (8 - w) 0, few)
 
   word_is : EachByte m.bytes → eight_whole array % range w ≡ whole (take w m.bytes)
   word_is h =
