@@ -11,16 +11,16 @@ use exr_error::refusal::Refusal;
 use exr_error::stop::Full;
 use exr_io::runs::write_slice_le;
 use exr_sink::sink::Sink;
-use exr_value::fields::read_i32;
+use exr_value::fields::Field;
 
 /// Four numbers, one after the other.
 fn read_corners(bytes: &[u8]) -> Result<((i32, i32, i32, i32), &[u8]), Refusal>
     ensures { seen_by four_bits result ≡ integers 4 bytes.now }
 {
-    let (x, rest) = read_i32(bytes)?;
-    let (y, rest) = read_i32(rest)?;
-    let (x_end, rest) = read_i32(rest)?;
-    let (y_end, rest) = read_i32(rest)?;
+    let (x, rest) = i32::read(bytes)?;
+    let (y, rest) = i32::read(rest)?;
+    let (x_end, rest) = i32::read(rest)?;
+    let (y_end, rest) = i32::read(rest)?;
     Ok(((x, y, x_end, y_end), rest))
 }
 

@@ -1,8 +1,9 @@
 -- The enumerations of the code, as the layout has them.
-use Rattle.std.specs.Prelude.{ℕ, Some, None, Ok, Err, Option, Result, to_bits, Float}
+use Rattle.std.specs.Prelude.{ℕ, Bool, List, [], ◌∷◌, Some, None, Ok, Err, Option, Result, to_bits, Float}
 use Rattle.std.specs.Float.{binary32}
 use Rattle.exr_error.specs.declared.refusal.Refusal.{Refusal}
 use Rattle.exr_error.specs.Refusals.{number_of}
+use Rattle.layout.specs.Fields.{Field}
 use Rattle.layout.specs.Enumerations as layout
 use Rattle.exr_code.specs.declared.compression.Compression.{Compression}
 use Rattle.exr_code.specs.declared.compression.Compression.TheVariants.{Uncompressed, RLE, ZIP1, ZIP16, PIZ, PXR24, B44, B44A, DWAA, DWAB, HTJ2K256, HTJ2K32}
@@ -15,6 +16,10 @@ use Rattle.exr_code.specs.declared.line_order.LineOrder.TheVariants.{Increasing,
 abbrev pub code_seen : {A : Type 0} → (A → ℕ) → Result A Refusal → Result ℕ ℕ
 code_seen code (Ok x) = Ok (code x)
 code_seen code (Err e) = Err (number_of e)
+
+-- the one field of a code: a byte, of which is asked whether it is listed
+abbrev pub one_code : ℕ → (ℕ → Bool) → List Field
+one_code question listed = record { width = 1; question = question; admits = listed; keeps = λ n. n } ∷ []
 
 abbrev pub envmap_of : EnvironmentMap → layout.Envmap
 envmap_of LatitudeLongitude = layout.LatitudeLongitude

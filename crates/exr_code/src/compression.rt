@@ -1,18 +1,10 @@
-ghost use Rattle.std.specs.Prelude.{◌≡◌, [], ◌∷◌, IfOk, None, nat_le};
+ghost use Rattle.std.specs.Prelude.{◌≡◌, None, nat_le, refl};
 ghost use Rattle.layout.specs.Enumerations.{compression_code};
-ghost use Rattle.layout.specs.Fields.{field_bytes, fields, size};
-ghost use Rattle.layout.specs.Kinds.{compression, fields_of};
-ghost use Rattle.layout.specs.Questions.{asked};
-ghost use Rattle.exr_value.specs.Seen.{seen_by};
-ghost use Rattle.exr_sink.specs.Gifts.{GaveAll};
-ghost use Rattle.exr_code.specs.Codes.{code_seen, compression_of, level_of};
+ghost use Rattle.layout.specs.Kinds.{fields_of, compression};
+ghost use Rattle.exr_code.specs.Codes.{compression_of, level_of};
 
-use exr_data::data::Data;
+use crate::coded::Coded;
 use exr_error::refusal::Refusal;
-use exr_error::stop::Full;
-use exr_io::number::write_le;
-use exr_sink::sink::Sink;
-use exr_value::fields::read_u8;
 
 /// How the pixels of an image are compressed.
 #[derive(Clone, Copy)]
@@ -45,11 +37,21 @@ pub enum Compression {
     HTJ2K32,
 }
 
-impl Compression {
-    /// Its code.
-    pub fn code(self) -> u8
-        ensures { result ≡ compression_code (compression_of self) }
-    {
+/// A code that is not listed gets 8. What is read has no level.
+impl Coded for Compression {
+    ghost code_of = { λ e. compression_code (compression_of e) };
+
+    ghost kind = { fields_of compression };
+
+    ghost listed = { λ code. nat_le code 11 };
+
+    ghost question = { 8 };
+
+    ghost Bare = { λ e. level_of e ≡ None };
+
+    ghost one = { refl };
+
+    fn code(self) -> u8 {
         match self {
             Compression::Uncompressed => 0,
             Compression::RLE => 1,
@@ -66,11 +68,7 @@ impl Compression {
         }
     }
 
-    /// The case of a code, without a level, or 8 if the code is not listed.
-    pub fn from_code(code: u8) -> Result<Compression, Refusal>
-        ensures case { code_seen (λ e. compression_code (compression_of e)) result ≡ asked (nat_le code 11) 8 code }
-        ensures level { IfOk result (λ c. level_of c ≡ None) }
-    {
+    fn from_code(code: u8) -> Result<Compression, Refusal> {
         match code {
             0 => Ok(Compression::Uncompressed),
             1 => Ok(Compression::RLE),
@@ -86,30 +84,5 @@ impl Compression {
             11 => Ok(Compression::HTJ2K32),
             _ => Err(Refusal::UnknownCompression),
         }
-    }
-
-    /// How many bytes it has in a file: 1.
-    pub fn byte_size() -> usize
-        ensures { result ≡ size (fields_of compression) }
-    {
-        u8::BYTE_SIZE
-    }
-
-    /// The case whose code is at the front of some bytes, without a level, and
-    /// the bytes behind it; 6 if there is none, 8 if the code is not listed.
-    pub fn read(bytes: &[u8]) -> Result<(Compression, &[u8]), Refusal>
-        ensures case { seen_by (λ e. compression_code (compression_of e) ∷ []) result ≡ fields (fields_of compression) bytes.now }
-        ensures level { IfOk result (λ p. level_of p.0 ≡ None) }
-    {
-        let (code, rest) = read_u8(bytes)?;
-        Ok((Compression::from_code(code)?, rest))
-    }
-
-    /// Gives its code to a sink.
-    pub fn write<W: Sink>(self, sink: &mut W) -> Result<(), Full>
-        ensures takes { GaveAll (W.means sink.old) (field_bytes (fields_of compression) (compression_code (compression_of self) ∷ [])) result (W.means sink.new) }
-        ensures kept { W.keeps sink.old sink.new }
-    {
-        write_le(sink, self.code())
     }
 }

@@ -2,6 +2,7 @@
 //! map and line order.
 #![tactic(auto)]
 
+pub mod coded;
 pub mod compression;
 pub mod environment_map;
 pub mod line_order;

@@ -1,12 +1,10 @@
 ghost use Rattle.std.specs.Prelude.{◌^◌, ◌<◌, FitsSigned};
 ghost use Rattle.std.specs.Int.{w16};
-ghost use Rattle.std.proofs.Common.{of_z, to_z, rules};
+ghost use Rattle.std.proofs.Common.{of_z, to_z, rules, lit≤};
 
 use crate::data::Data;
 
 impl Data for u16 {
-    ghost width = { 2 };
-
     ghost fits = { λ x. x < 2 ^ 16 };
 
     ghost bits = { λ x. x };
@@ -15,13 +13,13 @@ impl Data for u16 {
 
     const BYTE_SIZE: usize = 2;
 
+    ghost BYTE_SIZE = { 2 };
+
+    ghost narrow = { lit≤ tt };
+
     ghost below = { Prim.search rules };
 
     ghost back = { Prim.search rules };
-
-    fn size_in_bytes() -> usize {
-        Self::BYTE_SIZE
-    }
 
     fn to_word(self) -> u64 {
         self as u64
@@ -33,23 +31,21 @@ impl Data for u16 {
 }
 
 impl Data for i16 {
-    ghost width = { 2 };
+    ghost fits = { FitsSigned w16 };
 
-    ghost fits = { λ x. FitsSigned w16 x };
+    ghost bits = { of_z w16 };
 
-    ghost bits = { λ x. of_z w16 x };
-
-    ghost value = { λ n. to_z w16 n };
+    ghost value = { to_z w16 };
 
     const BYTE_SIZE: usize = u16::BYTE_SIZE;
+
+    ghost BYTE_SIZE = { 2 };
+
+    ghost narrow = { lit≤ tt };
 
     ghost below = { Prim.search rules };
 
     ghost back = { Prim.search rules };
-
-    fn size_in_bytes() -> usize {
-        Self::BYTE_SIZE
-    }
 
     fn to_word(self) -> u64 {
         self.cast_unsigned().to_word()
@@ -62,14 +58,12 @@ impl Data for i16 {
 
 /// A half float, by its bits. All of them are kept, also of what is not a
 /// number.
-#[derive(Clone, Copy)]
+#[derive(Clone, Copy, PartialEq, Eq)]
 pub struct F16 {
     pub bits: u16,
 }
 
 impl Data for F16 {
-    ghost width = { 2 };
-
     ghost fits = { λ x. x.bits < 2 ^ 16 };
 
     ghost bits = { λ x. x.bits };
@@ -78,13 +72,13 @@ impl Data for F16 {
 
     const BYTE_SIZE: usize = u16::BYTE_SIZE;
 
+    ghost BYTE_SIZE = { 2 };
+
+    ghost narrow = { lit≤ tt };
+
     ghost below = { Prim.search rules };
 
     ghost back = { Prim.search rules };
-
-    fn size_in_bytes() -> usize {
-        Self::BYTE_SIZE
-    }
 
     fn to_word(self) -> u64 {
         self.bits.to_word()

@@ -2,15 +2,13 @@ ghost use Rattle.std.specs.Prelude.{◌^◌, ◌<◌, T, FitsSigned};
 ghost use Rattle.std.specs.Float.Ieee as Ieee;
 ghost use Rattle.std.specs.Float.{binary32};
 ghost use Rattle.std.specs.Int.{w32};
-ghost use Rattle.std.proofs.Common.{of_z, to_z, rules};
+ghost use Rattle.std.proofs.Common.{of_z, to_z, rules, lit≤};
 ghost use Rattle.std.specs.Float.Ieee.Bits.{to_bits-lt, of_bits-to_bits};
 
 use crate::data::Data;
 use std::num::{f32_from_bits_with_nan, f32_to_bits_with_nan};
 
 impl Data for u32 {
-    ghost width = { 4 };
-
     ghost fits = { λ x. x < 2 ^ 32 };
 
     ghost bits = { λ x. x };
@@ -19,13 +17,13 @@ impl Data for u32 {
 
     const BYTE_SIZE: usize = 4;
 
+    ghost BYTE_SIZE = { 4 };
+
+    ghost narrow = { lit≤ tt };
+
     ghost below = { Prim.search rules };
 
     ghost back = { Prim.search rules };
-
-    fn size_in_bytes() -> usize {
-        Self::BYTE_SIZE
-    }
 
     fn to_word(self) -> u64 {
         self as u64
@@ -37,23 +35,21 @@ impl Data for u32 {
 }
 
 impl Data for i32 {
-    ghost width = { 4 };
+    ghost fits = { FitsSigned w32 };
 
-    ghost fits = { λ x. FitsSigned w32 x };
+    ghost bits = { of_z w32 };
 
-    ghost bits = { λ x. of_z w32 x };
-
-    ghost value = { λ n. to_z w32 n };
+    ghost value = { to_z w32 };
 
     const BYTE_SIZE: usize = u32::BYTE_SIZE;
+
+    ghost BYTE_SIZE = { 4 };
+
+    ghost narrow = { lit≤ tt };
 
     ghost below = { Prim.search rules };
 
     ghost back = { Prim.search rules };
-
-    fn size_in_bytes() -> usize {
-        Self::BYTE_SIZE
-    }
 
     fn to_word(self) -> u64 {
         self.cast_unsigned().to_word()
@@ -66,23 +62,21 @@ impl Data for i32 {
 
 // All that is not a number is one value, with the bits 7FC00000.
 impl Data for f32 {
-    ghost width = { 4 };
-
     ghost fits = { λ x. T (Ieee.fits binary32 x) };
 
-    ghost bits = { λ x. Ieee.to_bits binary32 x };
+    ghost bits = { Ieee.to_bits binary32 };
 
-    ghost value = { λ n. Ieee.of_bits binary32 n };
+    ghost value = { Ieee.of_bits binary32 };
 
     const BYTE_SIZE: usize = u32::BYTE_SIZE;
 
-    ghost below = { λ x h. to_bits-lt binary32 x h };
+    ghost BYTE_SIZE = { 4 };
 
-    ghost back = { λ x h. of_bits-to_bits binary32 x h };
+    ghost narrow = { lit≤ tt };
 
-    fn size_in_bytes() -> usize {
-        Self::BYTE_SIZE
-    }
+    ghost below = { to_bits-lt binary32 };
+
+    ghost back = { of_bits-to_bits binary32 };
 
     fn to_word(self) -> u64 {
         f32_to_bits_with_nan(self).to_word()

@@ -1,12 +1,10 @@
 ghost use Rattle.std.specs.Prelude.{◌^◌, ◌<◌, FitsSigned};
 ghost use Rattle.std.specs.Int.{w8};
-ghost use Rattle.std.proofs.Common.{of_z, to_z, rules};
+ghost use Rattle.std.proofs.Common.{of_z, to_z, rules, lit≤};
 
 use crate::data::Data;
 
 impl Data for u8 {
-    ghost width = { 1 };
-
     ghost fits = { λ x. x < 2 ^ 8 };
 
     ghost bits = { λ x. x };
@@ -15,13 +13,13 @@ impl Data for u8 {
 
     const BYTE_SIZE: usize = 1;
 
+    ghost BYTE_SIZE = { 1 };
+
+    ghost narrow = { lit≤ tt };
+
     ghost below = { Prim.search rules };
 
     ghost back = { Prim.search rules };
-
-    fn size_in_bytes() -> usize {
-        Self::BYTE_SIZE
-    }
 
     fn to_word(self) -> u64 {
         self as u64
@@ -33,23 +31,21 @@ impl Data for u8 {
 }
 
 impl Data for i8 {
-    ghost width = { 1 };
+    ghost fits = { FitsSigned w8 };
 
-    ghost fits = { λ x. FitsSigned w8 x };
+    ghost bits = { of_z w8 };
 
-    ghost bits = { λ x. of_z w8 x };
-
-    ghost value = { λ n. to_z w8 n };
+    ghost value = { to_z w8 };
 
     const BYTE_SIZE: usize = u8::BYTE_SIZE;
+
+    ghost BYTE_SIZE = { 1 };
+
+    ghost narrow = { lit≤ tt };
 
     ghost below = { Prim.search rules };
 
     ghost back = { Prim.search rules };
-
-    fn size_in_bytes() -> usize {
-        Self::BYTE_SIZE
-    }
 
     fn to_word(self) -> u64 {
         self.cast_unsigned().to_word()

@@ -3,9 +3,6 @@ ghost use Rattle.layout.specs.Numbers.{range};
 
 /// A number of `BYTE_SIZE` bytes, which reads back from them.
 pub trait Data: Copy {
-    // how many bytes it has, 8 at most
-    ghost width: { ℕ };
-
     // which values there are
     ghost fits: { Self → Type 0 };
 
@@ -14,13 +11,10 @@ pub trait Data: Copy {
 
     ghost value: { ℕ → Self };
 
-    /// How many bytes it has in a file.
+    /// How many bytes it has in a file, 8 at most.
     const BYTE_SIZE: usize;
 
-    /// `BYTE_SIZE`, with what it is.
-    fn size_in_bytes() -> usize
-        ensures size { result ≡ width }
-        ensures most { result ≤ 8 };
+    ghost BYTE_SIZE: { ℕ };
 
     /// Its bits, as a number.
     fn to_word(self) -> u64
@@ -29,10 +23,12 @@ pub trait Data: Copy {
 
     /// The value of bits; what is above its width does not count.
     fn from_word(word: u64) -> Self
-        ensures value { result ≡ value (word % range width) }
+        ensures value { result ≡ value (word % range BYTE_SIZE) }
         ensures valid { fits result };
 
-    ghost below: { (x : Self) → fits x → bits x < range width };
+    ghost narrow: { BYTE_SIZE ≤ 8 };
+
+    ghost below: { (x : Self) → fits x → bits x < range BYTE_SIZE };
 
     ghost back: { (x : Self) → fits x → value (bits x) ≡ x };
 }

@@ -2,26 +2,33 @@
 use Rattle.std.specs.Prelude.{◌≡◌, ℕ, ◌^◌, ◌<◌, List, map, from_bits, to_bits, Float}
 use Rattle.std.specs.Float.{binary32, binary64}
 use Rattle.layout.specs.Floats.{single, double}
-use Rattle.exr_float.specs.declared.single.F32Bits.{F32Bits}
-use Rattle.exr_float.specs.declared.double.F64Bits.{F64Bits}
+use Rattle.exr_float.specs.declared.bits.FloatBits.{FloatBits}
 
 -- the float that bits are: all that is not a number is one
-abbrev pub float_of : F32Bits → Float
+abbrev pub float_of : FloatBits ℕ → Float
 float_of b = from_bits binary32 b.bits
 
-abbrev pub double_of : F64Bits → Float
+abbrev pub double_of : FloatBits ℕ → Float
 double_of b = from_bits binary64 b.bits
 
 -- the bits of a float
-abbrev pub single_of : Float → F32Bits
+abbrev pub single_of : Float → FloatBits ℕ
 single_of x = record { bits = to_bits binary32 x }
 
+abbrev pub wide_of : Float → FloatBits ℕ
+wide_of x = record { bits = to_bits binary64 x }
+
 -- bits as they are held, and as they are written
-abbrev pub held : List F32Bits → List ℕ
+abbrev pub held : List (FloatBits ℕ) → List ℕ
 held bs = map (λ b. b.bits) bs
 
-abbrev pub written : List F32Bits → List ℕ
+abbrev pub written : List (FloatBits ℕ) → List ℕ
 written bs = map (λ b. single b.bits) bs
+
+-- both ways between floats and bits are these
+pub record OneByTheOther {F B : Type 0} (bits : F → B) (floats : B → F) (bits_of : F → B) (floats_of : B → F) : Type 0 where
+  pub to : (x : F) → bits_of x ≡ bits x
+  pub from : (b : B) → floats_of b ≡ floats b
 
 -- ---- the layout's floats are the floats of the standard
 

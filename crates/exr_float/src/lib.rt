@@ -2,8 +2,7 @@
 //! bits; its users are given floats.
 #![tactic(auto)]
 
-pub mod double;
+pub mod bits;
 pub mod laws;
-pub mod pairs;
-pub mod single;
-pub mod triples;
+pub mod values;
+pub mod word;

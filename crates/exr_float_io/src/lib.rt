@@ -2,6 +2,5 @@
 //! given to a sink.
 #![tactic(auto)]
 
+pub mod fields;
 pub mod laws;
-pub mod read;
-pub mod write;

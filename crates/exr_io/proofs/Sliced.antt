@@ -1,9 +1,11 @@
--- A slice of numbers that is read from its start.
-use Rattle.std.proofs.Common.{◌≡◌, ℕ, ◌+◌, ◌-◌, ◌*◌, ◌<◌, ◌≤◌, Bool, true, false, cond, leb, List, [], ◌∷◌, ◌++◌, length, get_or, take, drop, set, Ok, Err, Option, Result, sym, refl, ap, ◌∙◌, append_assoc, mul-le-mul_right, add-mul, one-mul, arith, le-leb, leb-false, leb-true}
-use borrow.Author.Tests.{lt-leb}
-use Rattle.std.proofs.lemmas.List.{append-nil, length-set, length-drop, take-append-drop, take_all, drop_all, drop-drop, drop_more, take_more_set, drop-set-lt}
+-- A slice of numbers that is read: its first place, and then the rest.
+use Rattle.std.proofs.Common.{◌≡◌, ℕ, ◌+◌, ◌*◌, ◌<◌, ◌≤◌, min, Bool, true, false, cond, leb, List, [], ◌∷◌, ◌++◌, length, take, drop, set, Ok, Err, Option, Result, sym, refl, ap, ◌∙◌, subst, append_assoc, arith, le-leb, leb-false, leb-true}
+use Rattle.std.proofs.Math.Nat.{suc-mul, zero-mul}
+use Rattle.std.proofs.lemmas.Bool.{lt-leb}
+use Rattle.std.proofs.lemmas.Bool.Decides.{nat_tests}
+use Rattle.std.proofs.lemmas.List.{append-nil, length-drop, take-append-drop, take_all, drop_all, drop-drop, drop_more, take_more_set, drop-set-lt}
 use Rattle.exr_error.specs.declared.stop.Stop.{Stop}
-use Rattle.layout.specs.Numbers.{Bytes, whole}
+use Rattle.layout.specs.Numbers.{whole}
 use Rattle.layout.specs.Streams.{SourceMeaning, source_of, after}
 use Rattle.exr_source.specs.Requests.{stop_at}
 use Rattle.exr_read.specs.Fills.{come}
@@ -19,86 +21,71 @@ module _ {X : Type 0} (w : ℕ) (value : ℕ → X) where
   failed true e x s p = (cc, cc)
   failed false e x s p = (refl, cc)
 
-  pub record Reading (m : SourceMeaning) (slice₀ : List X) (i : ℕ) (m' : SourceMeaning) (slice : List X) : Type 0 where
-    pub within : i ≤ length slice₀
-    pub long : length slice ≡ length slice₀
-    pub there : i * w ≤ length m.bytes
-    pub left : m' ≡ after (i * w) m
-    pub laid_in : read_into w value slice₀ m.bytes ≡ take i slice ++ read_into w value (drop i slice) (drop (i * w) m.bytes)
+  module _ (m : SourceMeaning) (x : X) (xs : List X) where
+    abbrev first : X
+    first = value (whole (take w m.bytes))
 
-  -- the next place, where a number comes for it and where none does
-  into_came : (slice : List X) (i : ℕ) (d : X) (bs : Bytes) → i < length slice → w ≤ length bs → read_into w value (drop i slice) bs ≡ value (whole (take w bs)) ∷ read_into w value (drop (i + 1) slice) (drop w bs)
-  into_came slice i d bs h k = ap (λ p. read_into w value p bs) (drop_more slice i d h) ∙ ap (λ b. cond b (value (whole (take w bs)) ∷ read_into w value (drop (i + 1) slice) (drop w bs)) (get_or slice i d ∷ drop (i + 1) slice)) (le-leb w (length bs) k)
+    more : length (x ∷ xs) * w ≡ length xs * w + w
+    more = suc-mul (length xs) w
 
-  into_failed : (slice : List X) (i : ℕ) (d : X) (bs : Bytes) → i < length slice → length bs < w → read_into w value (drop i slice) bs ≡ drop i slice
-  into_failed slice i d bs h k = ap (λ p. read_into w value p bs) (drop_more slice i d h) ∙ ap (λ b. cond b (value (whole (take w bs)) ∷ read_into w value (drop (i + 1) slice) (drop w bs)) (get_or slice i d ∷ drop (i + 1) slice)) (lt-leb w (length bs) k) ∙ sym (drop_more slice i d h)
+    into : (b : Bool) → leb w (length m.bytes) ≡ b → read_into w value (x ∷ xs) m.bytes ≡ cond b (first ∷ read_into w value xs (drop w m.bytes)) (x ∷ xs)
+    into b e = ap (λ b. cond b (first ∷ read_into w value xs (drop w m.bytes)) (x ∷ xs)) e
 
-  next_product : (i : ℕ) → (i + 1) * w ≡ i * w + w
-  next_product i = add-mul i 1 w ∙ ap (λ n. i * w + n) (one-mul w)
-
-  module _ (m : SourceMeaning) (slice₀ : List X) (i : ℕ) (m' : SourceMeaning) (slice : List X) (s : Reading m slice₀ i m' slice) (h : i < length slice) where
-    abbrev rest : Bytes
-    rest = drop (i * w) m.bytes
-
-    rest_is : m'.bytes ≡ rest
-    rest_is = ap (λ x. x.bytes) s.left
-
-    pub reading_more : (v : X) (m'' : SourceMeaning) → ReadLe w value m' (Ok v) m'' → Reading m slice₀ (i + 1) m'' (set slice i v)
-    reading_more v m'' r =
-        let p = came (leb w (length m'.bytes)) v (value (whole (take w m'.bytes))) m'.stop r.answer in
-        let enough : w ≤ length m'.bytes = leb-true _ _ p.0 in
-        let l : length m'.bytes ≡ length m.bytes - i * w = ap length rest_is ∙ length-drop (i * w) m.bytes in
-        let k : w ≤ length rest = omega (arith, ap length rest_is) in
-        let n : (i + 1) * w ≡ i * w + w = next_product i in
-        let v_is : v ≡ value (whole (take w rest)) = p.1 ∙ ap (λ b. value (whole (take w b))) rest_is in
-        let all : come w m' ≡ w = omega arith in
-        let onward : drop w rest ≡ drop ((i + 1) * w) m.bytes = drop-drop w (i * w) m.bytes ∙ ap (λ x. drop x m.bytes) (sym n) in
-        let same : drop (i + 1) (set slice i v) ≡ drop (i + 1) slice = drop-set-lt (i + 1) slice i v (omega arith) in
+    -- a number comes for the first place
+    run_on : (v : X) (m' : SourceMeaning) → ReadLe w value m (Ok v) m' → (r : Result (Unit {0}) Stop) (m'' : SourceMeaning) (ys : List X) → ReadRun w value m' xs r m'' ys → ReadRun w value m (x ∷ xs) r m'' (v ∷ ys)
+    run_on v m' a r m'' ys k =
+        let p = came (leb w (length m.bytes)) v first m.stop a.answer in
+        let enough : w ≤ length m.bytes = leb-true _ _ p.0 in
+        let all : come w m ≡ w = omega arith in
+        let q = subst (λ s. ReadRun w value s xs r m'' ys) (a.left ∙ ap (λ n. after n m) all) k in
+        let n = length xs * w in
+        let long = length-drop w m.bytes in
+        let test : leb n (length (drop w m.bytes)) ≡ leb (length (x ∷ xs) * w) (length m.bytes) = grind (arith, nat_tests, more, long, enough) in
+        let sum : w + min n (length (drop w m.bytes)) ≡ come (length (x ∷ xs) * w) m = omega (arith, more, long, enough) in
         record {
-          within = omega (arith, s.long);
-          long = length-set slice i v ∙ s.long;
-          there = omega (arith, s.there);
-          left = r.left ∙ ap (λ x. after x m') all ∙ ap (after w) s.left ∙ ap (λ b. source_of b m.stop) onward;
-          laid_in =
-              s.laid_in
-              ∙ ap (λ x. take i slice ++ x) (into_came slice i v rest h k ∙ ap (λ x. x ∷ read_into w value (drop (i + 1) slice) (drop w rest)) (sym v_is))
-              ∙ sym (append_assoc (take i slice) (v ∷ []) (read_into w value (drop (i + 1) slice) (drop w rest)))
-              ∙ ap (λ x. x ++ read_into w value (drop (i + 1) slice) (drop w rest)) (sym (take_more_set slice i v h))
-              ∙ ap (λ x. take (i + 1) (set slice i v) ++ read_into w value x (drop w rest)) (sym same)
-              ∙ ap (λ b. take (i + 1) (set slice i v) ++ read_into w value (drop (i + 1) (set slice i v)) b) onward;
+          answer = q.answer ∙ ap (λ b. one_or b tt m.stop) test;
+          laid_in = ap (λ t. v ∷ t) q.laid_in ∙ ap (λ u. u ∷ read_into w value xs (drop w m.bytes)) p.1 ∙ sym (into true p.0);
+          left = q.left ∙ ap (λ b. source_of b m.stop) (drop-drop (min n (length (drop w m.bytes))) w m.bytes) ∙ ap (λ k. after k m) sum;
         }
 
-    pub reading_stopped : (d : X) (e : Stop) (m'' : SourceMeaning) (r : Result (Unit {0}) Stop) → ReadLe w value m' (Err e) m'' → r ≡ Err e → ReadRun w value m slice₀ r m'' slice
-    reading_stopped d e m'' r q re =
-        let p = failed (leb w (length m'.bytes)) e (value (whole (take w m'.bytes))) m'.stop q.answer in
-        let less : length m'.bytes < w = leb-false _ _ p.0 in
-        let l : length m'.bytes ≡ length m.bytes - i * w = ap length rest_is ∙ length-drop (i * w) m.bytes in
-        let k : length rest < w = omega (arith, ap length rest_is) in
-        let n : (i + 1) * w ≡ i * w + w = next_product i in
-        let far : (i + 1) * w ≤ length slice₀ * w = mul-le-mul_right w (omega (arith, s.long)) in
-        let short : length m.bytes < length slice₀ * w = omega (arith, s.there) in
-        let got_all : come w m' ≡ length m'.bytes = omega arith in
-        let want_all : come (length slice₀ * w) m ≡ length m.bytes = omega arith in
-        let sum : i * w + length m'.bytes ≡ length m.bytes = omega (arith, s.there) in
+    -- none does
+    run_stopped : (e : Stop) (m' : SourceMeaning) → ReadLe w value m (Err e) m' → (r : Result (Unit {0}) Stop) → r ≡ Err e → ReadRun w value m (x ∷ xs) r m' (x ∷ xs)
+    run_stopped e m' a r re =
+        let p = failed (leb w (length m.bytes)) e first m.stop a.answer in
+        let less : length m.bytes < w = leb-false _ _ p.0 in
+        let short : length m.bytes < length (x ∷ xs) * w = omega (arith, more, less) in
+        let all : come w m ≡ come (length (x ∷ xs) * w) m = omega arith in
         record {
-          answer = re ∙ ap Err (p.1 ∙ ap (λ x. stop_at x.stop) s.left) ∙ sym (ap (λ b. one_or b tt m.stop) (lt-leb _ _ short));
-          laid_in = sym (s.laid_in ∙ ap (λ x. take i slice ++ x) (into_failed slice i d rest h k) ∙ take-append-drop i slice);
-          left =
-              q.left
-              ∙ ap (λ x. after x m') got_all
-              ∙ ap (after (length m'.bytes)) s.left
-              ∙ ap (λ b. source_of b m.stop) (drop-drop (length m'.bytes) (i * w) m.bytes)
-              ∙ ap (λ x. after x m) (sum ∙ sym want_all);
+          answer = re ∙ ap Err p.1 ∙ sym (ap (λ b. one_or b tt m.stop) (lt-leb _ _ short));
+          laid_in = sym (into false p.0);
+          left = a.left ∙ ap (λ n. after n m) all;
         }
 
-  pub reading_done : (m : SourceMeaning) (slice₀ : List X) (i : ℕ) (m' : SourceMeaning) (slice : List X) → Reading m slice₀ i m' slice → length slice ≤ i → ReadRun w value m slice₀ (Ok tt) m' slice
-  reading_done m slice₀ i m' slice s h =
-      let n : i ≡ length slice₀ = omega (arith, s.within, s.long) in
-      let product : i * w ≡ length slice₀ * w = ap (λ x. x * w) n in
-      let enough : length slice₀ * w ≤ length m.bytes = omega (arith, s.there) in
-      let all : come (length slice₀ * w) m ≡ i * w = omega arith in
+  run_done : (m : SourceMeaning) → ReadRun w value m [] (Ok tt) m []
+  run_done m =
+      let none = zero-mul w in
+      let all : 0 ≡ come (0 * w) m = omega (arith, none) in
       record {
-        answer = sym (ap (λ b. one_or b tt m.stop) (le-leb _ _ enough));
-        laid_in = sym (s.laid_in ∙ ap (λ p. take i slice ++ read_into w value p (drop (i * w) m.bytes)) (drop_all i slice h) ∙ append-nil (take i slice) ∙ take_all i slice h);
-        left = s.left ∙ ap (λ x. after x m) (sym all);
+        answer = sym (ap (λ b. one_or b tt m.stop) (le-leb (0 * w) (length m.bytes) (omega (arith, none))));
+        laid_in = refl;
+        left = ap (λ n. after n m) all;
       }
+
+  -- what comes of the rest of a slice comes of all of it
+  abbrev pub Rest : SourceMeaning → List X → ℕ → SourceMeaning → List X → Type 0
+  Rest m₀ slice₀ i m slice = (r : Result (Unit {0}) Stop) (m' : SourceMeaning) (rest : List X) → ReadRun w value m (drop i slice) r m' rest → ReadRun w value m₀ slice₀ r m' (take i slice ++ rest)
+
+  module _ (m₀ : SourceMeaning) (slice₀ : List X) (i : ℕ) (m : SourceMeaning) (slice : List X) (s : Rest m₀ slice₀ i m slice) where
+    pub rest_on : i < length slice → (v : X) (m' : SourceMeaning) → ReadLe w value m (Ok v) m' → Rest m₀ slice₀ (i + 1) m' (set slice i v)
+    rest_on h v m' a = λ r m'' rest k.
+        let q : ReadRun w value m' (drop (i + 1) slice) r m'' rest = rw (drop-set-lt (i + 1) slice i v (omega arith)) at k in
+        let run = s r m'' (v ∷ rest) (rw (drop_more slice i v h) (run_on m _ (drop (i + 1) slice) v m' a r m'' rest q)) in
+        rw (take_more_set slice i v h, append_assoc) run
+
+    pub rest_stopped : i < length slice → (d : X) (e : Stop) (m' : SourceMeaning) (r : Result (Unit {0}) Stop) → ReadLe w value m (Err e) m' → r ≡ Err e → ReadRun w value m₀ slice₀ r m' slice
+    rest_stopped h d e m' r a re =
+        let run = s r m' (drop i slice) (rw (drop_more slice i d h) (run_stopped m _ (drop (i + 1) slice) e m' a r re)) in
+        rw (take-append-drop i slice) at run
+
+    pub rest_done : length slice ≤ i → ReadRun w value m₀ slice₀ (Ok tt) m slice
+    rest_done h = let run = s (Ok tt) m [] (rw (drop_all i slice h) (run_done m)) in rw (append-nil (take i slice), take_all i slice h) at run

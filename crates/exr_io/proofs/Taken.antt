@@ -1,7 +1,6 @@
 -- A number taken from a source through the front of an array of eight bytes.
-use Rattle.std.proofs.Common.{◌≡◌, ℕ, zero, suc, ◌-◌, ◌%◌, ◌≤◌, leb, ◌∷◌, ◌++◌, length, take, drop, Ok, sym, refl, ap, ◌∙◌, subst, arith, le-leb, leb-true}
-use borrow.Rule.Slice.PartMut.{post_of}
-use Rattle.std.proofs.lemmas.List.{length-replicate, length-take-le, length-append, drop_all, append-nil}
+use Rattle.std.proofs.Common.{◌≡◌, ℕ, ◌-◌, ◌%◌, ◌≤◌, leb, ◌++◌, length, take, drop, Ok, sym, ap, ◌∙◌, subst, arith, le-leb, leb-true}
+use Rattle.std.proofs.lemmas.List.{length-replicate, take-replicate, drop-replicate, length-take-le, length-append, drop_all, append-nil}
 use Rattle.layout.specs.Numbers.{Bytes, EachByte, whole, range}
 use Rattle.layout.specs.Streams.{SourceMeaning, after}
 use Rattle.exr_source.specs.Requests.{laid}
@@ -10,35 +9,19 @@ use Rattle.exr_read.specs.Fills.{come, Filled}
 use Rattle.exr_io.specs.Reads.{one_or, ReadLe}
 use Rattle.exr_io.proofs.Words.{zeros, eight_whole, whole_eight, whole_before_zeros, whole_small}
 
-length-zeros : (k : ℕ) → length (zeros k) ≡ k
-length-zeros k = length-replicate k 0
-
-take-zeros : (w k : ℕ) → w ≤ k → take w (zeros k) ≡ zeros w
-take-zeros zero k h = refl
-take-zeros (suc w) zero h = absurd (omega arith)
-take-zeros (suc w) (suc k) h = ap (λ t. 0 ∷ t) (take-zeros w k (omega arith))
-
-drop-zeros : (w k : ℕ) → w ≤ k → drop w (zeros k) ≡ zeros (k - w)
-drop-zeros zero k h = let n : k ≡ k - 0 = omega arith in ap (λ n. zeros n) n
-drop-zeros (suc w) zero h = absurd (omega arith)
-drop-zeros (suc w) (suc k) h = let n : k - w ≡ suc k - suc w = omega arith in drop-zeros w k (omega arith) ∙ ap (λ n. zeros n) n
-
 -- the part lent for the number
 abbrev pub lent_front : ℕ → Bytes
-lent_front size = take (size - 0) (zeros 8)
+lent_front size = take size (zeros 8)
 
-module _ (w size : ℕ) (same : size ≡ w) (most : size ≤ 8) (m : SourceMeaning) (x : Unit {0}) (m' : SourceMeaning) (part : Bytes) (f : Filled m (lent_front size) (Ok x) m' part) where
+module _ (w size : ℕ) (same : size ≡ w) (few : w ≤ 8) (m : SourceMeaning) (x : Unit {0}) (m' : SourceMeaning) (part : Bytes) (f : Filled m (lent_front size) (Ok x) m' part) where
   abbrev array : Bytes
-  array = part ++ post_of 0 (size - 0) (zeros 8)
-
-  few : w ≤ 8
-  few = omega (arith, same, most)
+  array = part ++ drop size (zeros 8)
 
   lent_is : lent_front size ≡ zeros w
-  lent_is = let e : size - 0 ≡ w = omega (arith, same) in ap (λ n. take n (zeros 8)) e ∙ take-zeros w 8 few
+  lent_is = ap (λ n. take n (zeros 8)) same ∙ take-replicate w 8 0 few
 
   lent_long : length (lent_front size) ≡ w
-  lent_long = ap length lent_is ∙ length-zeros w
+  lent_long = ap length lent_is ∙ length-replicate w 0
 
   pub enough : w ≤ length m.bytes
   enough = subst (λ n. n ≤ length m.bytes) lent_long (leb-true (length (lent_front size)) (length m.bytes) (ok_all (leb (length (lent_front size)) (length m.bytes)) x m.stop (length m.bytes) f.answer))
@@ -52,16 +35,16 @@ module _ (w size : ℕ) (same : size ≡ w) (most : size ≤ 8) (m : SourceMeani
       ∙ ap (λ t. take w m.bytes ++ t) (drop_all w (lent_front size) (omega (arith, lent_long)))
       ∙ append-nil (take w m.bytes)
 
-  behind : post_of 0 (size - 0) (zeros 8) ≡ zeros (8 - w)
-  behind = let e : size - 0 ≡ w = omega (arith, same) in ap (λ n. drop n (zeros 8)) e ∙ drop-zeros w 8 few
+  behind : drop size (zeros 8) ≡ zeros (8 - w)
+  behind = ap (λ n. drop n (zeros 8)) same ∙ drop-replicate w 8 0
 
   array_is : array ≡ take w m.bytes ++ zeros (8 - w)
-  array_is = ap (λ t. t ++ post_of 0 (size - 0) (zeros 8)) part_is ∙ ap (λ t. take w m.bytes ++ t) behind
+  array_is = ap (λ t. t ++ drop size (zeros 8)) part_is ∙ ap (λ t. take w m.bytes ++ t) behind
 
   array_long : length array ≡ 8
   array_long =
       ap length array_is ∙ length-append (take w m.bytes) (zeros (8 - w))
-      ∙ omega (arith, length-take-le w m.bytes enough, length-zeros (8 - w), few)
+      ∙ omega (arith, length-take-le w m.bytes enough, length-replicate {A = ℕ} (8 - w) 0, few)
 
   word_is : EachByte m.bytes → eight_whole array % range w ≡ whole (take w m.bytes)
   word_is h =

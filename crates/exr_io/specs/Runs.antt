@@ -1,6 +1,6 @@
 -- Runs of numbers of one width, one directly after the other.
 use Rattle.std.specs.Prelude.{◌≡◌, ℕ, ◌*◌, cond, List, [], ◌∷◌, length, take, drop, Result, nat_le}
-use Rattle.std.specs.List.{flat_map}
+use Rattle.std.specs.List.{All, flat_map}
 use Rattle.exr_error.specs.declared.stop.Stop.{Stop}
 use Rattle.layout.specs.Numbers.{Bytes, whole, low_first}
 use Rattle.layout.specs.Streams.{SourceMeaning, after}
@@ -18,12 +18,7 @@ pub record ReadRun {X : Type 0} (w : ℕ) (value : ℕ → X) (m : SourceMeaning
   pub laid_in : slice' ≡ read_into w value slice m.bytes
   pub left : m' ≡ after (come (length slice * w) m) m
 
--- what holds of each of some values
-abbrev pub Each : {X : Type 0} → (X → Type 0) → List X → Type 0
-Each P [] = Unit {0}
-Each P (x ∷ xs) = P x × Each P xs
-
 -- the bytes of numbers read back as these numbers, into any slice as long
 abbrev pub RunsReadBack : {X : Type 0} → ℕ → (X → Type 0) → (X → ℕ) → (ℕ → X) → Type 0
 RunsReadBack {X} w fits bits value =
-    (xs slice : List X) → Each fits xs → length slice ≡ length xs → read_into w value slice (flat_map (λ x. low_first w (bits x)) xs) ≡ xs
+    (xs slice : List X) → All fits xs → length slice ≡ length xs → read_into w value slice (flat_map (λ x. low_first w (bits x)) xs) ≡ xs

@@ -4,6 +4,7 @@ ghost use Rattle.exr_sink.specs.Gifts.{GaveAll};
 ghost use Rattle.exr_peek.specs.Peeks.{peek_means, is_next, sans_next};
 
 use crate::number::write_le;
+use exr_data::data::Data;
 use exr_error::stop::{Full, Stop};
 use exr_peek::peek_read::PeekRead;
 use exr_sink::sink::Sink;
@@ -13,7 +14,7 @@ use exr_source::source::Source;
 pub fn byte_size() -> usize
     ensures { result ≡ 1 }
 {
-    1usize
+    u8::BYTE_SIZE
 }
 
 /// Gives a sink the byte 00, which ends a sequence.

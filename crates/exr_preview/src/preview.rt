@@ -4,7 +4,7 @@ ghost use Rattle.layout.specs.Decode.{picture};
 ghost use Rattle.exr_value.specs.Seen.{seen_by};
 ghost use Rattle.exr_sink.specs.Gifts.{GaveAll};
 ghost use Rattle.exr_sink.specs.Writing.{refused_by, Wrote};
-ghost use Rattle.exr_preview.specs.Previews.{pixel_bytes, pixels_at, preview_ask, preview_bytes, preview_form, preview_size, split};
+ghost use Rattle.exr_preview.specs.Previews.{pixel_bytes, pixels_at, preview_ask, preview_bytes, preview_fits, preview_form, preview_size, sides_or, split};
 
 use exr_data::data::Data;
 use exr_error::refusal::Refusal;
@@ -12,12 +12,12 @@ use exr_error::stop::Full;
 use exr_io::runs::write_slice_le;
 use exr_sink::sink::Sink;
 use exr_sink::write::write_all;
-use exr_value::fields::read_u32;
+use exr_value::fields::Field;
 use exr_vec2::Vec2;
 
 /// A small picture that resembles the image. Each pixel has four bytes: red,
 /// green, blue and alpha.
-#[derive(Clone, Copy)]
+#[derive(Clone, Copy, PartialEq, Eq)]
 pub struct Preview<'a> {
     /// Width and height.
     pub size: Vec2<usize>,
@@ -26,10 +26,10 @@ pub struct Preview<'a> {
 }
 
 /// How many bytes the pixels of a picture have.
-fn pixel_bytes(width: u32, height: u32) -> u128
-    ensures { result ≡ pixel_bytes width height }
+fn pixel_bytes(sides: Vec2<u32>) -> u128
+    ensures { result ≡ pixel_bytes sides.0 sides.1 }
 {
-    4 * (width as u128) * (height as u128)
+    4 * u128::from(sides.0) * u128::from(sides.1)
 }
 
 /// The pixels at the front of some bytes, and the bytes behind them; 6 if they
@@ -37,20 +37,16 @@ fn pixel_bytes(width: u32, height: u32) -> u128
 fn read_pixels(bytes: &[u8], count: u128) -> Result<(&[u8], &[u8]), Refusal>
     ensures { split result ≡ pixels_at count bytes.now }
 {
-    if count > bytes.len() as u128 {
-        return Err(Refusal::MissingBytes);
-    }
-    let count = count as usize;
-    Ok((&bytes[0..count], &bytes[count..]))
+    let count = usize::try_from(count).map_err(|_| Refusal::MissingBytes)?;
+    bytes.split_at_checked(count).ok_or(Refusal::MissingBytes)
 }
 
 /// Gives two sides and pixels to a sink.
-fn write_parts<W: Sink>(sink: &mut W, width: u32, height: u32, pixels: &[u8]) -> Result<(), Full>
-    ensures takes { GaveAll (W.means sink.old) (preview_bytes width height pixels.now) result (W.means sink.new) }
+fn write_parts<W: Sink>(sink: &mut W, sides: Vec2<u32>, pixels: &[u8]) -> Result<(), Full>
+    ensures takes { GaveAll (W.means sink.old) (preview_bytes sides.0 sides.1 pixels.now) result (W.means sink.new) }
     ensures kept { W.keeps sink.old sink.new }
 {
-    let sides = [width, height];
-    write_slice_le(sink, &sides)?;
+    write_slice_le(sink, &[sides.0, sides.1])?;
     write_all(sink, pixels)
 }
 
@@ -60,12 +56,13 @@ impl<'a> Preview<'a> {
     pub fn read(bytes: &'a [u8]) -> Result<(Preview<'a>, &'a [u8]), Refusal>
         ensures { seen_by preview_form result ≡ picture bytes.now }
     {
-        let (width, rest) = read_u32(bytes)?;
-        let (height, rest) = read_u32(rest)?;
-        let (pixel_data, rest) = read_pixels(rest, pixel_bytes(width, height))?;
+        let (width, rest) = u32::read(bytes)?;
+        let (height, rest) = u32::read(rest)?;
+        let (pixel_data, rest) = read_pixels(rest, pixel_bytes(Vec2(width, height)))?;
         let size = Vec2(width as usize, height as usize);
         Ok((Preview { size, pixel_data }, rest))
     }
+
     /// How many bytes it has in a file: 8 for its sides, and its pixels. None
     /// if that does not fit, which no buffer in memory reaches.
     pub fn byte_size(&self) -> Option<usize>
@@ -74,19 +71,25 @@ impl<'a> Preview<'a> {
         self.pixel_data.len().checked_add(8)
     }
 
+    /// Its sides as files have them, or 12 unless both are at most 4294967295
+    /// and there are just 4 × width × height bytes of pixels.
+    fn sides(&self) -> Result<Vec2<u32>, Refusal>
+        ensures { result ≡ sides_or (preview_fits self.now) self.now.size }
+    {
+        let sides = Vec2::<u32>::try_from(self.size).map_err(|_| Refusal::InvalidSides)?;
+        if self.pixel_data.len() as u128 == pixel_bytes(sides) {
+            Ok(sides)
+        } else {
+            Err(Refusal::InvalidSides)
+        }
+    }
+
     /// 12 unless both sides are at most 4294967295 and there are just 4 × width
     /// × height bytes of pixels.
     pub fn validate(&self) -> Result<(), Refusal>
         ensures { refused_by result ≡ preview_ask self.now }
     {
-        let width = self.size.0;
-        let height = self.size.1;
-        if width > 4294967295 || height > 4294967295 {
-            return Err(Refusal::InvalidSides);
-        }
-        if self.pixel_data.len() as u128 != pixel_bytes(width as u32, height as u32) {
-            return Err(Refusal::InvalidSides);
-        }
+        self.sides()?;
         Ok(())
     }
 
@@ -96,10 +99,7 @@ impl<'a> Preview<'a> {
         ensures takes { Wrote (preview_ask self.now) (W.means sink.old) (preview_bytes self.now.size.0 self.now.size.1 self.now.pixel_data.now) result (W.means sink.new) }
         ensures kept { W.keeps sink.old sink.new }
     {
-        self.validate()?;
-        let width = self.size.0;
-        let height = self.size.1;
-        write_parts(sink, width as u32, height as u32, self.pixel_data)?;
+        write_parts(sink, self.sides()?, self.pixel_data)?;
         Ok(())
     }
 }

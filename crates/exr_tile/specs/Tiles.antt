@@ -1,7 +1,5 @@
 -- Tile descriptions of the code, as the layout has them.
-use Rattle.std.specs.Prelude.{ℕ, cond, ◌&&◌, List, [], ◌∷◌, Some, None, Ok, Err, Option, Result, nat_le}
-use Rattle.exr_error.specs.declared.refusal.Refusal.{Refusal}
-use Rattle.exr_error.specs.Refusals.{number_of}
+use Rattle.std.specs.Prelude.{ℕ, cond, ◌&&◌, List, [], ◌∷◌, Some, None, Option, nat_le}
 use Rattle.exr_math.specs.declared.rounding.RoundingMode.{RoundingMode}
 use Rattle.exr_math.specs.declared.rounding.RoundingMode.TheVariants.{Down, Up}
 use Rattle.exr_vec2.specs.declared.Vec2.{Vec2}
@@ -19,11 +17,6 @@ level_of RipMap = layout.RipMap
 abbrev pub rounding_of : RoundingMode → layout.RoundingMode
 rounding_of Down = layout.Down
 rounding_of Up = layout.Up
-
--- the mode byte of two modes that were found, or the number of the refusal
-abbrev pub mode_seen : Result (LevelMode × RoundingMode) Refusal → Result ℕ ℕ
-mode_seen (Ok p) = Ok (mode_byte (level_of p.0) (rounding_of p.1))
-mode_seen (Err e) = Err (number_of e)
 
 -- width, height and mode byte
 abbrev pub tile_numbers : TileDescription → List ℕ

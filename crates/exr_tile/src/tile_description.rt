@@ -1,25 +1,26 @@
 ghost use Rattle.std.specs.Prelude.{◌≡◌, ◌≤◌, [], ◌∷◌};
+ghost use Rattle.layout.specs.Enumerations.{mode_byte};
 ghost use Rattle.layout.specs.Fields.{field_bytes, fields, size};
 ghost use Rattle.layout.specs.Kinds.{fields_of, tiledesc};
 ghost use Rattle.exr_value.specs.Seen.{seen_by};
 ghost use Rattle.exr_sink.specs.Gifts.{GaveAll};
 ghost use Rattle.exr_sink.specs.Writing.{Wrote};
-ghost use Rattle.exr_tile.specs.Tiles.{sides_ask, tile_numbers};
+ghost use Rattle.exr_tile.specs.Tiles.{level_of, rounding_of, sides_ask, tile_numbers};
 
 use crate::level_mode::LevelMode;
-use crate::modes::{mode_byte, modes_of};
+use crate::modes::Modes;
+use exr_code::coded::Coded;
 use exr_data::data::Data;
 use exr_error::refusal::Refusal;
 use exr_error::stop::Full;
-use exr_io::number::write_le;
 use exr_io::runs::write_slice_le;
 use exr_math::rounding::RoundingMode;
 use exr_sink::sink::Sink;
-use exr_value::fields::{read_u8, read_u32};
+use exr_value::fields::Field;
 use exr_vec2::Vec2;
 
 /// How an image is divided into tiles, and whether it has several levels.
-#[derive(Clone, Copy)]
+#[derive(Clone, Copy, PartialEq, Eq)]
 pub struct TileDescription {
     /// The size of each tile, the same on all levels.
     pub tile_size: Vec2<usize>,
@@ -29,14 +30,13 @@ pub struct TileDescription {
     pub rounding_mode: RoundingMode,
 }
 
-/// Gives two sides and a mode byte to a sink.
-fn write_parts<W: Sink>(sink: &mut W, width: u32, height: u32, mode: u8) -> Result<(), Full>
-    ensures takes { GaveAll (W.means sink.old) (field_bytes (fields_of tiledesc) (width ∷ height ∷ mode ∷ [])) result (W.means sink.new) }
+/// Gives two sides and two modes to a sink.
+fn write_parts<W: Sink>(sink: &mut W, sides: Vec2<u32>, modes: Modes) -> Result<(), Full>
+    ensures takes { GaveAll (W.means sink.old) (field_bytes (fields_of tiledesc) (sides.0 ∷ sides.1 ∷ mode_byte (level_of modes.level) (rounding_of modes.rounding) ∷ [])) result (W.means sink.new) }
     ensures kept { W.keeps sink.old sink.new }
 {
-    let sides = [width, height];
-    write_slice_le(sink, &sides)?;
-    write_le(sink, mode)
+    write_slice_le(sink, &[sides.0, sides.1])?;
+    modes.write(sink)
 }
 
 impl TileDescription {
@@ -53,15 +53,13 @@ impl TileDescription {
     pub fn read(bytes: &[u8]) -> Result<(TileDescription, &[u8]), Refusal>
         ensures { seen_by tile_numbers result ≡ fields (fields_of tiledesc) bytes.now }
     {
-        let (width, rest) = read_u32(bytes)?;
-        let (height, rest) = read_u32(rest)?;
-        let (mode, rest) = read_u8(rest)?;
-        let (level_mode, rounding_mode) = modes_of(mode)?;
-        let tile_size = Vec2(width as usize, height as usize);
+        let (width, rest) = u32::read(bytes)?;
+        let (height, rest) = u32::read(rest)?;
+        let (modes, rest) = Modes::read(rest)?;
         let found = TileDescription {
-            tile_size,
-            level_mode,
-            rounding_mode,
+            tile_size: Vec2(width as usize, height as usize),
+            level_mode: modes.level,
+            rounding_mode: modes.rounding,
         };
         Ok((found, rest))
     }
@@ -72,17 +70,12 @@ impl TileDescription {
         ensures takes { Wrote (sides_ask self.now.tile_size) (W.means sink.old) (field_bytes (fields_of tiledesc) (tile_numbers self.now)) result (W.means sink.new) }
         ensures kept { W.keeps sink.old sink.new }
     {
-        let width = self.tile_size.0;
-        let height = self.tile_size.1;
-        if width > 4294967295 || height > 4294967295 {
-            return Err(Refusal::InvalidSides);
-        }
-        write_parts(
-            sink,
-            width as u32,
-            height as u32,
-            mode_byte(self.level_mode, self.rounding_mode),
-        )?;
+        let sides = Vec2::<u32>::try_from(self.tile_size).map_err(|_| Refusal::InvalidSides)?;
+        let modes = Modes {
+            level: self.level_mode,
+            rounding: self.rounding_mode,
+        };
+        write_parts(sink, sides, modes)?;
         Ok(())
     }
 }

@@ -12,7 +12,7 @@ use exr_error::refusal::Refusal;
 use exr_error::stop::Full;
 use exr_io::runs::write_slice_le;
 use exr_sink::sink::Sink;
-use exr_value::fields::read_u32;
+use exr_value::fields::Field;
 
 impl TimeCode {
     /// How many bytes a time code has in a file: 8.
@@ -27,8 +27,8 @@ impl TimeCode {
     pub fn read(bytes: &[u8]) -> Result<(TimeCode, &[u8]), Refusal>
         ensures { seen_by time_of result ≡ time_at bytes.now }
     {
-        let (time_and_flags, rest) = read_u32(bytes)?;
-        let (user_data, rest) = read_u32(rest)?;
+        let (time_and_flags, rest) = u32::read(bytes)?;
+        let (user_data, rest) = u32::read(rest)?;
         Ok((of_words(time_and_flags, user_data), rest))
     }
 

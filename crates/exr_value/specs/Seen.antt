@@ -11,16 +11,10 @@ abbrev pub seen_by : {A B : Type 0} → (A → B) → Result (A × Bor Bytes) Re
 seen_by f (Ok p) = Ok (f p.0, p.1.now)
 seen_by f (Err e) = Err (number_of e)
 
-abbrev pub seen : {A : Type 0} → Result (A × Bor Bytes) Refusal → Answer A
-seen (Ok p) = Ok (p.0, p.1.now)
-seen (Err e) = Err (number_of e)
+-- the number of w bytes, the lowest first
+abbrev pub number_at : ℕ → Bytes → Answer ℕ
+number_at w xs = next (part w xs) (λ bs r. Ok (whole bs, r))
 
--- the number of one byte, of four, of eight
-abbrev pub byte : Bytes → Answer ℕ
-byte xs = next (part 1 xs) (λ bs r. Ok (whole bs, r))
-
+-- the number of four bytes
 abbrev pub word : Bytes → Answer ℕ
-word xs = next (part 4 xs) (λ bs r. Ok (whole bs, r))
-
-abbrev pub long : Bytes → Answer ℕ
-long xs = next (part 8 xs) (λ bs r. Ok (whole bs, r))
+word xs = number_at 4 xs

@@ -5,7 +5,7 @@ ghost use Rattle.exr_sink.specs.Gifts.{GaveAll};
 ghost use Rattle.exr_value.specs.Seen.{seen_by};
 ghost use Rattle.exr_value.specs.KeyCodes.{numbers_of, Taken, KeyCodesReadBack};
 
-use crate::fields::read_i32;
+use crate::fields::Field;
 use exr_data::data::Data;
 use exr_error::fault::Fault;
 use exr_error::refusal::Refusal;
@@ -47,13 +47,13 @@ impl KeyCode {
     pub fn read(bytes: &[u8]) -> Result<(KeyCode, &[u8]), Refusal>
         ensures { seen_by numbers_of result ≡ integers 7 bytes.now }
     {
-        let (film_manufacturer_code, rest) = read_i32(bytes)?;
-        let (film_type, rest) = read_i32(rest)?;
-        let (film_roll_prefix, rest) = read_i32(rest)?;
-        let (count, rest) = read_i32(rest)?;
-        let (perforation_offset, rest) = read_i32(rest)?;
-        let (perforations_per_frame, rest) = read_i32(rest)?;
-        let (perforations_per_count, rest) = read_i32(rest)?;
+        let (film_manufacturer_code, rest) = i32::read(bytes)?;
+        let (film_type, rest) = i32::read(rest)?;
+        let (film_roll_prefix, rest) = i32::read(rest)?;
+        let (count, rest) = i32::read(rest)?;
+        let (perforation_offset, rest) = i32::read(rest)?;
+        let (perforations_per_frame, rest) = i32::read(rest)?;
+        let (perforations_per_count, rest) = i32::read(rest)?;
         let key_code = KeyCode {
             film_manufacturer_code,
             film_type,
@@ -74,10 +74,8 @@ impl KeyCode {
     {
         let mut bytes = [0u8; 28];
         read_exact(source, &mut bytes)?;
-        match KeyCode::read(&bytes) {
-            Ok((key_code, _)) => Ok(key_code),
-            Err(refusal) => Err(refusal.at(0, 28)),
-        }
+        let (key_code, _) = KeyCode::read(&bytes).map_err(|refusal| refusal.at(0, 28))?;
+        Ok(key_code)
     }
 
     /// Gives its seven numbers to a sink, in the order of the fields.

@@ -1,29 +1,26 @@
 use Rattle.std.proofs.Common.{◌<◌, length, Err, ap, ◌∙◌, arith}
 use Rattle.std.proofs.lemmas.List.{set-get_or}
 use Rattle.std.proofs.lemmas.Result.{err_from_is_err_and}
-use Rattle.exr_io.proofs.Sliced.{reading_more, reading_stopped, reading_done}
+use Rattle.exr_io.proofs.Sliced.{rest_on, rest_stopped, rest_done}
 use Rattle.exr_io.proofs.runs.read_slice_le.Goals as goal
 
 pub returns-in_err-x : goal.returns-in_err-x
 returns-in_err-x g c =
     let p = err_from_is_err_and c.from_residual.result c.from_residual.ensures.1 in
-    let q = c.in_err-x.ensures in
-    let h : c.loop-x.x-index < length c.loop-x.slice = omega arith in
+    let h : c.loop-x.x-index < length c.loop-x.x-items = omega arith in
     record {
-      gives = rw set-get_or (reading_stopped _ _ _ _ _ _ _ c.loop-x.invariant.0 h c.x-item.result _ _ c.from_residual.result q.gives (p.1 ∙ ap Err p.2));
-      kept = g.S.Source.steady.on _ _ _ c.loop-x.invariant.1 q.kept;
+      gives = rw set-get_or (rest_stopped _ _ _ _ _ _ _ c.loop-x.invariant.gives h c.x-item.result _ _ c.from_residual.result c.in_err-x.ensures.gives (p.1 ∙ ap Err p.2));
+      kept = g.S.Source.steady.on _ _ _ c.loop-x.invariant.kept c.in_err-x.ensures.kept;
     }
 
 pub loop-x-preserved : goal.loop-x-preserved
-loop-x-preserved g c =
-    let q = c.in_ok-x.ensures in
-    let h : c.loop-x.x-index < length c.loop-x.slice = omega arith in (
-      reading_more _ _ _ _ _ _ _ c.loop-x.invariant.0 h _ _ q.gives,
-      g.S.Source.steady.on _ _ _ c.loop-x.invariant.1 q.kept,
-    )
+loop-x-preserved g c = record {
+  gives = rest_on _ _ _ _ _ _ _ c.loop-x.invariant.gives (omega arith) _ _ c.in_ok-x.ensures.gives;
+  kept = g.S.Source.steady.on _ _ _ c.loop-x.invariant.kept c.in_ok-x.ensures.kept;
+}
 
 pub returns : goal.returns
 returns g c = record {
-  gives = reading_done _ _ _ _ _ _ _ c.loop-x.invariant.0 (omega arith);
-  kept = c.loop-x.invariant.1;
+  gives = rest_done _ _ _ _ _ _ _ c.loop-x.invariant.gives (omega arith);
+  kept = c.loop-x.invariant.kept;
 }

@@ -2,8 +2,8 @@
 use Rattle.std.proofs.Common.{◌≡◌, ℕ, ◌+◌, ◌*◌, ◌/◌, ◌%◌, ◌<◌, Bool, true, false, cond, not, T, ltb, sym, refl, ap, ◌∙◌, subst}
 use lib.Ieee.{Float, nan, inf, fin, Format, binary32, binary64, hid, ones, top, is_nan, of_bits, to_bits}
 use lib.Ieee.Bits.{of_bits-to_bits, of_bits-fits, to_bits-of_bits, nan_bits_is, nan_bits_above}
-use Rattle.layout.specs.Floats.{one_nan}
-use Rattle.exr_float.specs.Floats.{FloatsAreTheirBits}
+use Rattle.layout.specs.Floats.{one_nan, single, double}
+use Rattle.layout.specs.Numbers.{range}
 
 -- the pattern of what is not a number
 abbrev quiet : Format → ℕ
@@ -22,13 +22,11 @@ by_case f n false h e = to_bits-of_bits f n h (subst (λ (b : Bool). T (not b)) 
 kept : (f : Format) (n : ℕ) → n < 2 * top f → to_bits f (of_bits f n) ≡ one_nan (top f) (ones f * hid f) (quiet f) n
 kept f n h = by_case f n (ltb (ones f * hid f) (n % top f)) h (sym (nan_bits_is f n) ∙ nan_bits_above f n)
 
-same : (f : Format) (n : ℕ) → n < 2 * top f → of_bits f (one_nan (top f) (ones f * hid f) (quiet f) n) ≡ of_bits f n
+pub same : (f : Format) (n : ℕ) → n < 2 * top f → of_bits f (one_nan (top f) (ones f * hid f) (quiet f) n) ≡ of_bits f n
 same f n h = ap (of_bits f) (sym (kept f n h)) ∙ of_bits-to_bits f (of_bits f n) (of_bits-fits f n)
 
-pub floats_are_their_bits_lem : FloatsAreTheirBits
-floats_are_their_bits_lem = record {
-  single_kept = kept binary32;
-  double_kept = kept binary64;
-  single_same = same binary32;
-  double_same = same binary64;
-}
+pub single_kept : (n : ℕ) → n < range 4 → to_bits binary32 (of_bits binary32 n) ≡ single n
+single_kept = kept binary32
+
+pub double_kept : (n : ℕ) → n < range 8 → to_bits binary64 (of_bits binary64 n) ≡ double n
+double_kept = kept binary64

@@ -1,0 +1,57 @@
+ghost use Rattle.std.specs.Prelude.{◌≡◌};
+
+use crate::values::OfFloats;
+use crate::word::FloatWord;
+use exr_data::data::Data;
+
+/// A float by its bits. All that is not a number is one value, with the bits
+/// 7FC00000, or of 64 bits 7FF8000000000000. Equal are those with equal bits:
+/// 0.0 and -0.0 differ, and what is not a number equals itself.
+#[derive(Clone, Copy, PartialEq, Eq)]
+pub struct FloatBits<W> {
+    bits: W,
+}
+
+/// A float of 32 bits, by its bits.
+pub type F32Bits = FloatBits<u32>;
+
+/// A float of 64 bits, by its bits.
+pub type F64Bits = FloatBits<u64>;
+
+impl<W: FloatWord> OfFloats for FloatBits<W> {
+    type Floats = W::Float;
+
+    ghost bits_of = { λ x. record { bits = W.value (W.Float.bits x) } };
+
+    ghost floats_of = { λ b. W.Float.value (W.bits b.bits) };
+
+    fn from_floats(x: W::Float) -> FloatBits<W> {
+        let word = x.to_word();
+        FloatBits {
+            bits: W::from_word(word),
+        }
+    }
+
+    fn to_floats(self) -> W::Float {
+        let word = self.bits.to_word();
+        W::Float::from_word(word)
+    }
+}
+
+impl<W: FloatWord> FloatBits<W> {
+    /// The bits as they are read: every pattern that is not a number becomes
+    /// one.
+    pub fn from_bits(bits: W) -> Self
+        ensures { W.bits result.bits ≡ W.keeps (W.bits bits) }
+    {
+        let word = bits.to_word();
+        FloatBits::from_floats(W::Float::from_word(word))
+    }
+
+    /// The bits as they are written.
+    pub fn to_bits(self) -> W
+        ensures { W.bits result ≡ W.keeps (W.bits self.bits) }
+    {
+        FloatBits::from_bits(self.bits).bits
+    }
+}
