@@ -39,8 +39,7 @@ pub fn carry(heap: Global, bytes: &[u8]) -> Result<Trip, AllocError>
         }
         Ok(key_code) => {
             write!(text, "read a key code\n{}", Numbers(key_code))?;
-            let given = bytes.len().min(KeyCode::byte_size());
-            written(&mut text, key_code, &bytes[0..given])?
+            written(&mut text, key_code, &bytes[..KeyCode::byte_size()])?
         }
     };
     Ok(Trip { text, carried })
