@@ -21,6 +21,7 @@ fn main(rt: HostRuntime) -> anyhow::Result<()> {
     Ok(())
 }
 
+/// Prints where the bytes come from, and carries them.
 fn trip(rt: &(impl Env + Files + Print + AllocGlobal)) -> anyhow::Result<Trip> {
     let Some(path) = env::args(rt)?.nth(1) else {
         println!(rt; "source: the example")?;
