@@ -3,8 +3,9 @@
 //! argument names, or from an example that it carries.
 #![tactic(auto)]
 
-use anyhow::anyhow;
+use anyhow::ensure;
 use key_code_trip::{Trip, carry};
+use std::rt::{Env, Files};
 use std::{env, fs};
 
 /// The numbers 1, 2, 3, 4, 5, 6 and 64.
@@ -12,34 +13,21 @@ const EXAMPLE: [u8; 28] = [
     1, 0, 0, 0, 2, 0, 0, 0, 3, 0, 0, 0, 4, 0, 0, 0, 5, 0, 0, 0, 6, 0, 0, 0, 64, 0, 0, 0,
 ];
 
-fn main(rt: HostRuntime) -> anyhow::Result<()> {
-    run(&rt)
-}
-
 /// Prints the steps; an error if the bytes were refused.
-fn run(rt: &HostRuntime) -> anyhow::Result<()> {
-    let trip = trip(rt)?;
-    rt.print(trip.text.as_str())?;
-    if trip.carried {
-        Ok(())
-    } else {
-        Err(anyhow!("no key code was carried"))
-    }
+fn main(rt: HostRuntime) -> anyhow::Result<()> {
+    let trip = trip(&rt)?;
+    print!(rt; "{}", trip.text)?;
+    ensure!(trip.carried, "no key code was carried");
+    Ok(())
 }
 
-fn trip(rt: &HostRuntime) -> anyhow::Result<Trip> {
-    let mut args = env::args(rt)?;
-    let _program = args.next();
-    match args.next() {
-        None => {
-            rt.println("source: the example")?;
-            Ok(carry(rt.alloc(), &EXAMPLE)?)
-        }
-        Some(path) => {
-            rt.print("source: the file ")?;
-            rt.println(path.as_str())?;
-            let bytes = fs::read(rt, path.as_str())?;
-            Ok(carry(rt.alloc(), &bytes)?)
-        }
-    }
+/// Prints where the bytes come from, and carries them.
+fn trip(rt: &(impl Env + Files + Print + AllocGlobal)) -> anyhow::Result<Trip> {
+    let Some(path) = env::args(rt)?.nth(1) else {
+        println!(rt; "source: the example")?;
+        return Ok(carry(rt.alloc(), &EXAMPLE)?);
+    };
+    println!(rt; "source: the file {path}")?;
+    let bytes = fs::read(rt, path.as_str())?;
+    Ok(carry(rt.alloc(), &bytes)?)
 }

@@ -1,47 +1,26 @@
 -- Boxes of the code, as the layout has them.
-use Rattle.std.specs.Prelude.{◌≡◌, ℕ, Bool, true, false, cond, ◌&&◌, List, [], ◌∷◌, ℤ, pos, ◌+ℤ◌, Some, None, Ok, Err, Option, Result, int_le, nat_le}
-use Rattle.std.specs.Int.{w32}
-use Rattle.std.proofs.Common.{of_z}
+use Rattle.std.specs.Prelude.{◌≡◌, ℕ, Bool, true, cond, ◌&&◌, List, [], ◌∷◌, ℤ, pos, ◌+ℤ◌, Some, None, Ok, Err, Option, Result, int_le, nat_le}
 use Rattle.exr_error.specs.declared.refusal.Refusal.{Refusal}
 use Rattle.exr_error.specs.Refusals.{number_of}
 use Rattle.exr_vec2.specs.declared.Vec2.{Vec2}
 use Rattle.layout.specs.Numbers.{Bytes}
 use Rattle.layout.specs.Questions.{Answer, next, when_ok}
 use Rattle.layout.specs.Fields.{integers}
-use Rattle.layout.specs.Boxes.{Box, last_of, axis_good, box_good, make_box, box_from}
+use Rattle.layout.specs.Boxes.{Box, last_of, box_good, make_box, box_from}
 use Rattle.exr_bounds.specs.declared.bounds.IntegerBounds.{IntegerBounds}
 
 -- a position and two sides
 abbrev pub box_at : Vec2 ℤ → Vec2 ℕ → Box
 box_at p s = record { position = (p.0, p.1); size = (s.0, s.1) }
 
-abbrev pub as_box : IntegerBounds → Box
-as_box b = box_at b.position b.size
-
--- what was never made stands for the box of one place at (0, 0)
-abbrev pub one_place : Box
-one_place = record { position = (pos 0, pos 0); size = (1, 1) }
-
-abbrev pub in_range_or : Bool → Box → Box
-in_range_or true b = b
-in_range_or false b = one_place
-
 -- the box that a value of the type is
-unfoldable pub box_of : IntegerBounds → Box
-box_of b = in_range_or (box_good (as_box b)) (as_box b)
+abbrev pub box_of : IntegerBounds → Box
+box_of b = record { position = (b.x.least, b.y.least); size = (b.x.side, b.y.side) }
 
 -- a made box by its meaning, or the number of the refusal
 abbrev pub box_seen : Result IntegerBounds Refusal → Result Box ℕ
 box_seen (Ok b) = Ok (box_of b)
 box_seen (Err e) = Err (number_of e)
-
--- the greatest place of an axis, if it is in range
-abbrev pub ending : ℤ → ℕ → Option ℤ
-ending least side = cond (axis_good least side) (Some (last_of least side)) None
-
--- the four corners' numbers, as their bits
-abbrev pub four_bits : ℤ × ℤ × ℤ × ℤ → List ℕ
-four_bits c = of_z w32 c.0 ∷ of_z w32 c.1 ∷ of_z w32 c.2 ∷ of_z w32 c.3 ∷ []
 
 -- the box at the front of some bytes: four numbers, then 11
 abbrev pub bounds_at : Bytes → Answer Box
@@ -59,6 +38,11 @@ greatest_of b = (last_of b.position.0 b.size.0, last_of b.position.1 b.size.1)
 
 abbrev pub behind_of : Box → Vec2 ℤ
 behind_of b = (last_of b.position.0 b.size.0 +ℤ pos 1, last_of b.position.1 b.size.1 +ℤ pos 1)
+
+-- the least and the greatest place of each axis
+abbrev pub corner_places : Box → List ℤ
+corner_places b =
+    b.position.0 ∷ b.position.1 ∷ last_of b.position.0 b.size.0 ∷ last_of b.position.1 b.size.1 ∷ []
 
 -- no side is larger than that of a greatest size
 abbrev pub fits_in : Box → Option (Vec2 ℕ) → Option (Unit {0})

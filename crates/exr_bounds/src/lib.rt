@@ -2,9 +2,8 @@
 //! range.
 #![tactic(auto)]
 
-mod axes;
+mod axis;
 pub mod bounds;
-mod corners;
 mod making;
 mod queries;
 mod reading;

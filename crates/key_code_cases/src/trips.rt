@@ -6,8 +6,9 @@ use std::test::Fail;
 fn no_bytes_are_refused(rt: HostRuntime) -> Result<(), Fail> {
     let trip = carry(rt.alloc(), &[])?;
     assert!(rt; !trip.carried);
-    assert!(rt;
-        trip.text.as_str() == "bytes to come: 0\nrefused: 18\nbytes given: 0\nnothing is written\n"
+    assert_eq!(rt;
+        trip.text.as_str(),
+        "bytes to come: 0\nrefused: 18\nbytes given: 0\nnothing is written\n"
     );
     Ok(())
 }
@@ -16,9 +17,9 @@ fn no_bytes_are_refused(rt: HostRuntime) -> Result<(), Fail> {
 fn six_numbers_are_refused(rt: HostRuntime) -> Result<(), Fail> {
     let trip = carry(rt.alloc(), &[1u8; 24])?;
     assert!(rt; !trip.carried);
-    assert!(rt;
-        trip.text.as_str()
-            == "bytes to come: 24\nrefused: 18\nbytes given: 24\nnothing is written\n"
+    assert_eq!(rt;
+        trip.text.as_str(),
+        "bytes to come: 24\nrefused: 18\nbytes given: 24\nnothing is written\n"
     );
     Ok(())
 }
@@ -27,15 +28,10 @@ fn six_numbers_are_refused(rt: HostRuntime) -> Result<(), Fail> {
 fn surplus_stays_in_the_source(rt: HostRuntime) -> Result<(), Fail> {
     let trip = carry(rt.alloc(), &[255u8; 30])?;
     assert!(rt; trip.carried);
+    let text = trip.text.as_str();
     assert!(rt;
-        trip.text.as_str().starts_with(
-            "bytes to come: 30\nread a key code\n  film_manufacturer_code: -1\n",
-        )
+        text.starts_with("bytes to come: 30\nread a key code\n  film_manufacturer_code: -1\n")
     );
-    assert!(rt;
-        trip.text
-            .as_str()
-            .ends_with("bytes taken: 28\nverdict: the same bytes\n")
-    );
+    assert!(rt; text.ends_with("bytes taken: 28\nverdict: the same bytes\n"));
     Ok(())
 }

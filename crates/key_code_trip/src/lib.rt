@@ -5,15 +5,17 @@ ghost use Rattle.std.specs.Prelude.{◌≡◌, true, length, IfOk, nat_le};
 ghost use Rattle.layout.specs.KeyCodes.{key_code_bytes};
 ghost use Rattle.exr_value.specs.KeyCodes.{numbers_of};
 
-use exr_error::fault::Fault;
+use crate::shown::{Hex, Numbers, Refused};
 use exr_sink::block::Block;
 use exr_sink::sink::Sink;
 use exr_source::held::HeldBytes;
 use exr_value::key_code::KeyCode;
 use std::alloc::{AllocError, Global};
-use std::fmt::Display;
+
+mod shown;
 
 /// A line for each step, and whether the key code came through.
+// The text is there in both cases, so `carried` stands beside it.
 #[derive(Drop)]
 pub struct Trip {
     pub text: String,
@@ -28,112 +30,38 @@ pub fn carry(heap: Global, bytes: &[u8]) -> Result<Trip, AllocError>
     ensures { IfOk result (λ t. t.carried ≡ nat_le 28 (length bytes.now)) }
 {
     let mut text = String::new(heap);
-    line(heap, &mut text, "bytes to come: ", bytes.len())?;
+    writeln!(text, "bytes to come: {}", bytes.len())?;
     let mut source = HeldBytes::new(bytes);
-    match KeyCode::read_from(&mut source) {
+    let carried = match KeyCode::read_from(&mut source) {
         Err(fault) => {
-            refused(heap, &mut text, fault)?;
-            Ok(Trip {
-                text,
-                carried: false,
-            })
+            writeln!(text, "{}nothing is written", Refused(fault))?;
+            false
         }
         Ok(key_code) => {
-            numbers(heap, &mut text, key_code)?;
-            let given = bytes.len().min(KeyCode::byte_size());
-            let carried = written(heap, &mut text, key_code, &bytes[0..given])?;
-            Ok(Trip { text, carried })
+            write!(text, "read a key code\n{}", Numbers(key_code))?;
+            written(&mut text, key_code, &bytes[..KeyCode::byte_size()])?
         }
-    }
-}
-
-fn refused(heap: Global, text: &mut String, fault: Fault) -> Result<(), AllocError> {
-    line(heap, text, "refused: ", fault.refusal.number())?;
-    line(heap, text, "bytes given: ", fault.bytes)?;
-    text.push_str("nothing is written\n")
-}
-
-/// Each number under the name of its field.
-fn numbers(heap: Global, text: &mut String, key_code: KeyCode) -> Result<(), AllocError> {
-    text.push_str("read a key code\n")?;
-    let rows = [
-        (
-            "  film_manufacturer_code: ",
-            key_code.film_manufacturer_code,
-        ),
-        ("  film_type: ", key_code.film_type),
-        ("  film_roll_prefix: ", key_code.film_roll_prefix),
-        ("  count: ", key_code.count),
-        ("  perforation_offset: ", key_code.perforation_offset),
-        (
-            "  perforations_per_frame: ",
-            key_code.perforations_per_frame,
-        ),
-        (
-            "  perforations_per_count: ",
-            key_code.perforations_per_count,
-        ),
-    ];
-    for (name, number) in rows {
-        line(heap, text, name, number)?;
-    }
-    Ok(())
+    };
+    Ok(Trip { text, carried })
 }
 
 /// Writes the numbers to a block, and tells whether it took the bytes that the
 /// source gave.
-fn written(
-    heap: Global,
-    text: &mut String,
-    key_code: KeyCode,
-    given: &[u8],
-) -> Result<bool, AllocError>
+fn written(text: &mut String, key_code: KeyCode, given: &[u8]) -> Result<bool, AllocError>
     ensures { IfOk result (λ same. given.now ≡ key_code_bytes (numbers_of key_code) → same ≡ true) }
 {
-    hex(heap, text, "given by the source:", given)?;
-    text.push_str("write its seven numbers\n")?;
+    writeln!(text, "given by the source:{}", Hex(given))?;
+    writeln!(text, "write its seven numbers")?;
     let mut block = Block::new();
     if let Err(full) = key_code.write(&mut block) {
-        line(
-            heap,
-            text,
-            "refused: 20, the sink stopped with ",
-            full.number,
-        )?;
+        writeln!(text, "refused: 20, the sink stopped with {}", full.number)?;
         return Ok(false);
     }
     let taken = block.taken();
-    hex(heap, text, "taken by the sink:  ", taken)?;
-    line(heap, text, "bytes taken: ", taken.len())?;
+    writeln!(text, "taken by the sink:  {}", Hex(taken))?;
+    writeln!(text, "bytes taken: {}", taken.len())?;
     let same = taken == given;
-    text.push_str(if same {
-        "verdict: the same bytes\n"
-    } else {
-        "verdict: other bytes\n"
-    })?;
+    let which = if same { "the same" } else { "other" };
+    writeln!(text, "verdict: {which} bytes")?;
     Ok(same)
-}
-
-/// A line of words and a number.
-fn line(
-    heap: Global,
-    text: &mut String,
-    words: &str,
-    number: impl Display + Drop,
-) -> Result<(), AllocError> {
-    text.push_str(words)?;
-    text.push_str(number.to_string(heap)?.as_str())?;
-    text.push_str("\n")
-}
-
-/// A line of words and of bytes in hexadecimal, four to a group.
-fn hex(heap: Global, text: &mut String, words: &str, bytes: &[u8]) -> Result<(), AllocError> {
-    text.push_str(words)?;
-    for (place, byte) in bytes.iter().enumerate() {
-        if place % 4 == 0 {
-            text.push_str(" ")?;
-        }
-        text.push_str(format!(in heap; "{byte:02x}")?.as_str())?;
-    }
-    text.push_str("\n")
 }
