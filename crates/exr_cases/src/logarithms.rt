@@ -17,8 +17,7 @@ const LOGARITHMS: [(u32, u32, u32); 10] = [
 
 #[test]
 fn logarithms_at_examples(rt: HostRuntime) {
-    for row in LOGARITHMS.iter() {
-        let (number, down, up) = *row;
+    for (number, down, up) in LOGARITHMS {
         assert_eq!(rt; floor_log_2(number), down);
         assert_eq!(rt; ceil_log_2(number), up);
         assert_eq!(rt; RoundingMode::Down.log2(number), down);

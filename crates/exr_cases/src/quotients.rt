@@ -36,8 +36,7 @@ const OF_I32: [(i32, i32, Option<i32>, Option<i32>); 7] = [
 
 #[test]
 fn quotients_of_usize(rt: HostRuntime) {
-    for row in OF_USIZE.iter() {
-        let (dividend, divisor, down, up) = *row;
+    for (dividend, divisor, down, up) in OF_USIZE {
         assert_eq!(rt; RoundingMode::Down.divide(dividend, divisor), down);
         assert_eq!(rt; RoundingMode::Up.divide(dividend, divisor), up);
     }
@@ -45,8 +44,7 @@ fn quotients_of_usize(rt: HostRuntime) {
 
 #[test]
 fn quotients_of_i32(rt: HostRuntime) {
-    for row in OF_I32.iter() {
-        let (dividend, divisor, down, up) = *row;
+    for (dividend, divisor, down, up) in OF_I32 {
         assert_eq!(rt; RoundingMode::Down.divide(dividend, divisor), down);
         assert_eq!(rt; RoundingMode::Up.divide(dividend, divisor), up);
     }

@@ -1,6 +1,5 @@
 -- Quotients as whole numbers, by multiplication alone.
 use Rattle.std.specs.Prelude.{◌⊎◌, ℤ, pos, ◌+ℤ◌, ◌-ℤ◌, ◌*ℤ◌, ◌≤ℤ◌, ◌<ℤ◌, Some, None, Option}
-use Rattle.exr_number.specs.Numbers.{Range}
 use Rattle.exr_math.specs.declared.rounding.RoundingMode.{RoundingMode}
 use Rattle.exr_math.specs.declared.rounding.RoundingMode.TheVariants.{Down, Up}
 
@@ -22,9 +21,9 @@ abbrev pub Divided : {X : Type 0} → (X → ℤ) → RoundingMode → ℤ → �
 Divided value mode n d None = (n <ℤ pos 0) ⊎ (d <ℤ pos 1)
 Divided value mode n d (Some q) = (pos 0 ≤ℤ n) × (pos 1 ≤ℤ d) × Rounded mode n d (value q)
 
--- n can be divided by d: n is a number of the type and not below 0, and d is not below 1
-abbrev pub CanDivide : Range → ℤ → ℤ → Type 0
-CanDivide s n d = (pos 0 ≤ℤ n) × (n ≤ℤ s.greatest) × (pos 1 ≤ℤ d)
+-- n can be divided by d: n is not below 0, and d is not below 1
+abbrev pub CanDivide : ℤ → ℤ → Type 0
+CanDivide n d = (pos 0 ≤ℤ n) × (pos 1 ≤ℤ d)
 
 -- there is a quotient, rounded down, from 0 to n
 abbrev pub Floor : {X : Type 0} → (X → ℤ) → ℤ → ℤ → Option X → Type 0

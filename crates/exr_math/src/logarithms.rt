@@ -6,6 +6,7 @@ ghost use Rattle.exr_math.specs.Logarithms.{FloorLog, CeilLog, Bits};
 pub const fn floor_log_2(number: u32) -> u32
     ensures { FloorLog number result }
 {
+    // `checked_ilog2().unwrap_or(0)` cannot stand here, since `unwrap_or` is no `const fn`.
     if number == 0 { 0 } else { number.ilog2() }
 }
 
@@ -14,11 +15,7 @@ pub const fn floor_log_2(number: u32) -> u32
 pub const fn ceil_log_2(number: u32) -> u32
     ensures { CeilLog number result }
 {
-    if number == 0 {
-        0
-    } else {
-        bit_length(number - 1)
-    }
+    bit_length(number.saturating_sub(1))
 }
 
 // How many bits `number` has without zeros in front: the least exponent whose power of two is above

@@ -31,7 +31,7 @@ impl RoundingMode {
     pub fn divide<T: Number>(self, dividend: T, divisor: T) -> Option<T>
         ensures { Divided T.value self (T.value dividend) (T.value divisor) result }
     {
-        if dividend.is_below(T::from_u8(0)) || divisor.is_below(T::from_u8(1)) {
+        if dividend < T::from(0u8) || divisor < T::from(1u8) {
             return None;
         }
         match self {
@@ -43,7 +43,7 @@ impl RoundingMode {
 
 // The quotient rounded down: with these numbers, rounding toward zero is rounding down.
 fn divide_down<T: Number>(dividend: T, divisor: T) -> Option<T>
-    requires { CanDivide T.range (T.value dividend) (T.value divisor) }
+    requires { CanDivide (T.value dividend) (T.value divisor) }
     ensures { Floor T.value (T.value dividend) (T.value divisor) result }
 {
     dividend.checked_div(divisor)
@@ -52,11 +52,11 @@ fn divide_down<T: Number>(dividend: T, divisor: T) -> Option<T>
 // The quotient rounded up: 0 for 0, else one more than that of the number before, rounded down. No
 // sum on the way is above `dividend`.
 fn divide_up<T: Number>(dividend: T, divisor: T) -> Option<T>
-    requires { CanDivide T.range (T.value dividend) (T.value divisor) }
+    requires { CanDivide (T.value dividend) (T.value divisor) }
     ensures { Ceiling T.value (T.value dividend) (T.value divisor) result }
 {
-    let one = T::from_u8(1);
-    if dividend.is_below(one) {
+    let one = T::from(1u8);
+    if dividend < one {
         return Some(dividend);
     }
     divide_down(dividend.checked_sub(one)?, divisor)?.checked_add(one)

@@ -5,6 +5,7 @@ ghost use Rattle.std.proofs.Common.{rules};
 
 use crate::Number;
 
+// A macro that writes this impl and that of `usize` would be no shorter to read.
 impl Number for i32 {
     ghost value = { λ x. x };
 
@@ -14,13 +15,9 @@ impl Number for i32 {
 
     ghost zero = { Prim.search rules };
 
-    fn from_u8(n: u8) -> i32 {
-        i32::from(n)
-    }
+    ghost order = { Prim.search rules };
 
-    fn is_below(self, other: i32) -> bool {
-        self < other
-    }
+    ghost from_u8 = { Prim.search rules };
 
     fn checked_add(self, other: i32) -> Option<i32> {
         i32::checked_add(self, other)

@@ -14,13 +14,9 @@ impl Number for usize {
 
     ghost zero = { Prim.search rules };
 
-    fn from_u8(n: u8) -> usize {
-        usize::from(n)
-    }
+    ghost order = { Prim.search rules };
 
-    fn is_below(self, other: usize) -> bool {
-        self < other
-    }
+    ghost from_u8 = { Prim.search rules };
 
     fn checked_add(self, other: usize) -> Option<usize> {
         usize::checked_add(self, other)

@@ -1,3 +1,2 @@
-pub mod EachGroup
 pub mod UserWord
 pub mod Packed

@@ -16,14 +16,20 @@ pub user_below : (gs : List ℕ) → user_word gs < 2 ^ (4 * length gs)
 user_below [] = omega arith
 user_below (g ∷ gs) = rw sixteen (omega (arith, user_below gs))
 
-pub group_step : (gs : List ℕ) (i at word n : ℕ) → i < length gs → length gs ≤ 8 → at ≡ 4 * i → word ≡ user_word (take i gs) → n ≡ min (get_or gs i 0) 15 →
-    (word + (n * 2 ^ at) % 2 ^ 32 ≡ user_word (take (i + 1) gs)) × (word + (n * 2 ^ at) % 2 ^ 32 < 2 ^ 32)
-group_step gs i at word n h few at-is word_is n_is =
-    let whole : (n * 2 ^ at) % 2 ^ 32 ≡ n * 2 ^ at = shl_whole n 4 at 32 (omega arith) (omega arith) in
-    let place : n * 2 ^ at ≡ min (get_or gs i 0) 15 * 2 ^ (4 * i) = rw (n_is, at-is) refl in
-    let sum : word + (n * 2 ^ at) % 2 ^ 32 ≡ user_word (take (i + 1) gs) = omega (arith, user_more gs i h) in
-    let k : ℕ = length (take (i + 1) gs) in
-    let short : k ≤ 8 = simp length-take (omega arith) in
-    let bits : 4 * k ≤ 32 = omega arith in
-    let most : 2 ^ (4 * k) ≤ 2 ^ 32 = pow_mono bits in
-    (sum, omega (arith, user_below (take (i + 1) gs)))
+-- with the next group at its place the word is that of one group more, and has 32 bits
+pub next_group : (gs : List ℕ) (i word n : ℕ) → i < length gs → length gs ≤ 8 → word ≡ user_word (take i gs) → n ≡ min (get_or gs i 0) 15 → word + (n * 2 ^ (4 * i)) % 2 ^ 32 ≡ user_word (take (i + 1) gs)
+next_group gs i word n h few word_is n_is =
+    let whole : (n * 2 ^ (4 * i)) % 2 ^ 32 ≡ n * 2 ^ (4 * i) = shl_whole n 4 (4 * i) 32 (omega arith) (omega arith) in
+    let place : n * 2 ^ (4 * i) ≡ min (get_or gs i 0) 15 * 2 ^ (4 * i) = rw n_is refl in
+    omega (arith, user_more gs i h)
+
+fits : (gs : List ℕ) (k : ℕ) → length gs ≤ 8 → user_word (take k gs) < 2 ^ 32
+fits gs k few =
+    let n : ℕ = length (take k gs) in
+    let short : n ≤ 8 = simp length-take (omega arith) in
+    let bits : 4 * n ≤ 32 = omega arith in
+    let most : 2 ^ (4 * n) ≤ 2 ^ 32 = pow_mono bits in
+    omega (arith, user_below (take k gs))
+
+pub next_fits : (gs : List ℕ) (i word n : ℕ) → i < length gs → length gs ≤ 8 → word ≡ user_word (take i gs) → n ≡ min (get_or gs i 0) 15 → word + (n * 2 ^ (4 * i)) % 2 ^ 32 < 2 ^ 32
+next_fits gs i word n h few word_is n_is = omega (arith, fits gs (i + 1) few, next_group gs i word n h few word_is n_is)

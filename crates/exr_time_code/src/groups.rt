@@ -1,34 +1,21 @@
 ghost use Rattle.std.specs.Prelude.{◌≡◌, ◌≤◌, min, length};
 ghost use Rattle.layout.specs.TimeCodes.{few, groups_of, user_word};
 
-use crate::bits::bits;
+use crate::bits::Word;
 
 /// The eight groups of a user word.
 pub(crate) fn unpack_user_data_from_u32(user_data: u32) -> [u8; 8]
     ensures { result ≡ groups_of user_data }
 {
-    [
-        bits(user_data, 0, 4),
-        bits(user_data, 4, 4),
-        bits(user_data, 8, 4),
-        bits(user_data, 12, 4),
-        bits(user_data, 16, 4),
-        bits(user_data, 20, 4),
-        bits(user_data, 24, 4),
-        bits(user_data, 28, 4),
-    ]
+    let word = Word(user_data);
+    std::array::from_fn(|group| word.bits(4 * group, 4))
 }
 
 /// Whether each group has four bits.
 pub(crate) fn groups_fit(groups: &[u8]) -> bool
     ensures { result ≡ few groups.now }
 {
-    for group in groups {
-        if *group > 15 {
-            return false;
-        }
-    }
-    true
+    groups.iter().all(|group| *group <= 15)
 }
 
 /// A group as it is packed: one above 15 is taken as 15.
@@ -44,10 +31,8 @@ pub(crate) fn packed_groups(groups: &[u8]) -> u32
     ensures { result ≡ user_word groups.now }
 {
     let mut word = 0u32;
-    let mut at = 0u32;
-    for group in groups {
-        word += nibble(*group) << at;
-        at += 4;
+    for (index, group) in groups.iter().enumerate() {
+        word += nibble(*group) << (4 * index);
     }
     word
 }

@@ -2,7 +2,7 @@ ghost use Rattle.std.specs.Prelude.{◌≡◌, ◌+◌, ◌*◌, ◌/◌, ◌%�
 ghost use Rattle.layout.specs.TimeCodes.{time_code, user_word, valid};
 ghost use Rattle.exr_time_code.specs.Times.{packing, time_of, validity};
 
-use crate::bits::{flag, number};
+use crate::bits::Word;
 use crate::groups::{groups_fit, packed_groups, unpack_user_data_from_u32};
 use crate::time_code::TimeCode;
 use exr_error::refusal::Refusal;
@@ -62,19 +62,16 @@ impl TimeCode {
     pub fn from_tv60_time(tv60_time: u32, user_data: u32) -> TimeCode
         ensures { time_of result ≡ time_code tv60_time user_data }
     {
+        let time = Word(tv60_time);
         TimeCode {
-            hours: number(tv60_time, 24, 2),
-            minutes: number(tv60_time, 16, 3),
-            seconds: number(tv60_time, 8, 3),
-            frame: number(tv60_time, 0, 2),
-            drop_frame: flag(tv60_time, 6),
-            color_frame: flag(tv60_time, 7),
-            field_phase: flag(tv60_time, 15),
-            binary_group_flags: [
-                flag(tv60_time, 23),
-                flag(tv60_time, 30),
-                flag(tv60_time, 31),
-            ],
+            hours: time.number(24, 2),
+            minutes: time.number(16, 3),
+            seconds: time.number(8, 3),
+            frame: time.number(0, 2),
+            drop_frame: time.flag(6),
+            color_frame: time.flag(7),
+            field_phase: time.flag(15),
+            binary_group_flags: [time.flag(23), time.flag(30), time.flag(31)],
             binary_groups: unpack_user_data_from_u32(user_data),
         }
     }

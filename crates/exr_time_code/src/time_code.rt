@@ -1,6 +1,6 @@
 /// The time of a frame within a sequence, with the flags and the binary groups
 /// of SMPTE 12M.
-#[derive(Clone, Copy)]
+#[derive(Clone, Copy, PartialEq, Eq)]
 pub struct TimeCode {
     /// Hours, 0 to 23.
     pub hours: u8,

@@ -5,15 +5,14 @@ ghost use Rattle.exr_vec2.specs.Vectors.{Coordinates};
 
 use crate::Vec2;
 
-impl<T: Drop> Vec2<T> {
-    /// Try to convert all components of this vector to a new type,
-    /// yielding either a vector of that new type, or the error of the first component that cannot be
-    /// converted.
-    pub fn try_from<S: Drop>(value: Vec2<S>) -> Result<Self, T::Error>
-    where
-        T: TryFrom<S>,
-        ensures { Converts T.TryFrom.try_from_gives value result }
-    {
+/// All components of a vector converted to a new type: either a vector of that new type, or the
+/// error of the first component that cannot be converted.
+impl<S: Drop, T: TryFrom<S> + Drop> TryFrom<Vec2<S>> for Vec2<T> {
+    type Error = T::Error;
+
+    ghost try_from_gives = { Converts T.TryFrom.try_from_gives };
+
+    fn try_from(value: Vec2<S>) -> Result<Self, T::Error> {
         let Vec2(x, y) = value;
         let x = T::try_from(x)?;
         let y = T::try_from(y)?;
@@ -26,10 +25,7 @@ impl Vec2<i32> {
     pub fn to_usize(self) -> Option<Vec2<usize>>
         ensures { Coordinates (λ n. pos n) NotNegative self.0 NotNegative self.1 result }
     {
-        if self.0 < 0 || self.1 < 0 {
-            return None;
-        }
-        Some(Vec2(self.0 as usize, self.1 as usize))
+        Vec2::<usize>::try_from(self).ok()
     }
 }
 
@@ -38,10 +34,6 @@ impl Vec2<usize> {
     pub fn to_i32(self) -> Option<Vec2<i32>>
         ensures { Coordinates (λ z. z) AtMostI32 (pos self.0) AtMostI32 (pos self.1) result }
     {
-        let greatest = i32::MAX as usize;
-        if greatest < self.0 || greatest < self.1 {
-            return None;
-        }
-        Some(Vec2(self.0 as i32, self.1 as i32))
+        Vec2::<i32>::try_from(self).ok()
     }
 }

@@ -23,13 +23,10 @@ impl<T: Number> Vec2<T> {
     {
         let Vec2(x, y) = self;
         let Vec2(width, height) = resolution;
-        let zero = T::from_u8(0);
-        if x.is_below(zero) || !x.is_below(width) || y.is_below(zero) || !y.is_below(height) {
+        let zero = T::from(0u8);
+        if !(zero..width).contains(&x) || !(zero..height).contains(&y) {
             return None;
         }
-        match y.checked_mul(width) {
-            Some(start) => start.checked_add(x),
-            None => None,
-        }
+        y.checked_mul(width)?.checked_add(x)
     }
 }

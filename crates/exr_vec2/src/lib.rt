@@ -10,5 +10,5 @@ pub mod pairs;
 /// Simple two-dimensional vector of any numerical type.
 /// Supports only few mathematical operations
 /// as this is used mainly as data struct.
-#[derive(Clone, Copy, PartialEq, Eq, Default)]
+#[derive(Clone, Copy, Debug, PartialEq, Eq, Default)]
 pub struct Vec2<T>(pub T, pub T);

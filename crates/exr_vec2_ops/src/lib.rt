@@ -5,18 +5,18 @@
 ghost use Rattle.std.specs.Prelude.{neg_ℤ, int_div, ◌+ℤ◌, ◌-ℤ◌, ◌*ℤ◌};
 ghost use Rattle.exr_number.specs.Numbers.{Within, QuotientFits};
 ghost use Rattle.exr_vec2.specs.Vectors.{Combined, Coordinates};
+ghost use Rattle.exr_vec2_ops.specs.Each.{Each};
 
 use exr_number::Number;
 use exr_vec2::Vec2;
+
+// Functions, since an `impl Add` whose output is an `Option` would give a `+` that does not chain.
 
 /// The sum of the two vectors, or `None` exactly where a coordinate of it does not fit the type.
 pub fn add<T: Number>(a: Vec2<T>, b: Vec2<T>) -> Option<Vec2<T>>
     ensures { Combined T.value (λ _. Within T.range) ◌+ℤ◌ a b result }
 {
-    match (a.0.checked_add(b.0), a.1.checked_add(b.1)) {
-        (Some(x), Some(y)) => Some(Vec2(x, y)),
-        _ => None,
-    }
+    each(a, b, T::checked_add)
 }
 
 /// The difference of the two vectors, or `None` exactly where a coordinate of it does not fit the
@@ -24,10 +24,7 @@ pub fn add<T: Number>(a: Vec2<T>, b: Vec2<T>) -> Option<Vec2<T>>
 pub fn sub<T: Number>(a: Vec2<T>, b: Vec2<T>) -> Option<Vec2<T>>
     ensures { Combined T.value (λ _. Within T.range) ◌-ℤ◌ a b result }
 {
-    match (a.0.checked_sub(b.0), a.1.checked_sub(b.1)) {
-        (Some(x), Some(y)) => Some(Vec2(x, y)),
-        _ => None,
-    }
+    each(a, b, T::checked_sub)
 }
 
 /// The product of the first components and that of the second components, or `None` exactly where
@@ -35,10 +32,7 @@ pub fn sub<T: Number>(a: Vec2<T>, b: Vec2<T>) -> Option<Vec2<T>>
 pub fn mul<T: Number>(a: Vec2<T>, b: Vec2<T>) -> Option<Vec2<T>>
     ensures { Combined T.value (λ _. Within T.range) ◌*ℤ◌ a b result }
 {
-    match (a.0.checked_mul(b.0), a.1.checked_mul(b.1)) {
-        (Some(x), Some(y)) => Some(Vec2(x, y)),
-        _ => None,
-    }
+    each(a, b, T::checked_mul)
 }
 
 /// The quotient of the first components and that of the second components, each rounded toward
@@ -46,10 +40,7 @@ pub fn mul<T: Number>(a: Vec2<T>, b: Vec2<T>) -> Option<Vec2<T>>
 pub fn div<T: Number>(a: Vec2<T>, b: Vec2<T>) -> Option<Vec2<T>>
     ensures { Combined T.value (QuotientFits T.range) int_div a b result }
 {
-    match (a.0.checked_div(b.0), a.1.checked_div(b.1)) {
-        (Some(x), Some(y)) => Some(Vec2(x, y)),
-        _ => None,
-    }
+    each(a, b, T::checked_div)
 }
 
 /// The vector that points the other way, or `None` exactly where a coordinate of it does not fit
@@ -57,9 +48,14 @@ pub fn div<T: Number>(a: Vec2<T>, b: Vec2<T>) -> Option<Vec2<T>>
 pub fn neg<T: Number>(a: Vec2<T>) -> Option<Vec2<T>>
     ensures { Coordinates T.value (Within T.range) (neg_ℤ (T.value a.0)) (Within T.range) (neg_ℤ (T.value a.1)) result }
 {
-    let zero = T::from_u8(0);
-    match (zero.checked_sub(a.0), zero.checked_sub(a.1)) {
-        (Some(x), Some(y)) => Some(Vec2(x, y)),
-        _ => None,
-    }
+    let zero = T::from(0u8);
+    sub(Vec2(zero, zero), a)
+}
+
+// What `f` answers at the first components and at the second components, or `None` where it does.
+fn each<T: Number, F: Fn(T, T) -> Option<T>>(a: Vec2<T>, b: Vec2<T>, f: F) -> Option<Vec2<T>>
+    requires { F.IsAlwaysCallable f }
+    ensures { Each (F.post f) a b result }
+{
+    Some(Vec2(f(a.0, b.0)?, f(a.1, b.1)?))
 }
