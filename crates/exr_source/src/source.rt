@@ -9,14 +9,9 @@ pub trait Source {
     // its meaning: the bytes still to come, and the stop behind them
     ghost means: { Self → SourceMeaning };
 
-    // its bytes are below 256, a device number is from 1 to 255
-    ghost proper: { (s : Self) → Proper (means s) };
-
-    // what of it stays, whatever it gives; each source has it to itself, and it goes on from request to request;
+    // what of it stays, whatever it gives;
     // a clause `kept` of each reader, and no ghost field, since it relates the state before with the state after
     ghost keeps: { Self → Self → Type 0 };
-
-    ghost steady: { Steady keeps };
 
     /// A request for as many bytes as the buffer has. Answers 0 to a buffer
     /// of no bytes. While bytes are to come, lays the first k of them at the
@@ -26,4 +21,10 @@ pub trait Source {
     fn read(&mut self, buffer: &mut [u8]) -> Result<usize, Stop>
         ensures gives { Requested (means self.old) buffer.old result (means self.new) buffer.new }
         ensures kept { keeps self.old self.new };
+
+    // its bytes are below 256, a device number is from 1 to 255
+    ghost proper: { (s : Self) → Proper (means s) };
+
+    // each has what it keeps to itself, and it goes on from one call to the next
+    ghost steady: { Steady keeps };
 }

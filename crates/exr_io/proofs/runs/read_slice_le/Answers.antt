@@ -10,13 +10,13 @@ returns-in_err-x g c =
     let h : c.loop-x.x-index < length c.loop-x.x-items = omega arith in
     record {
       gives = rw set-get_or (rest_stopped _ _ _ _ _ _ _ c.loop-x.invariant.gives h c.x-item.result _ _ c.from_residual.result c.in_err-x.ensures.gives (p.1 ∙ ap Err p.2));
-      kept = g.S.Source.steady.on _ _ _ c.loop-x.invariant.kept c.in_err-x.ensures.kept;
+      kept = g.met.S.Source.steady.on _ _ _ c.loop-x.invariant.kept c.in_err-x.ensures.kept;
     }
 
 pub loop-x-preserved : goal.loop-x-preserved
 loop-x-preserved g c = record {
   gives = rest_on _ _ _ _ _ _ _ c.loop-x.invariant.gives (omega arith) _ _ c.in_ok-x.ensures.gives;
-  kept = g.S.Source.steady.on _ _ _ c.loop-x.invariant.kept c.in_ok-x.ensures.kept;
+  kept = g.met.S.Source.steady.on _ _ _ c.loop-x.invariant.kept c.in_ok-x.ensures.kept;
 }
 
 pub returns : goal.returns

@@ -13,7 +13,7 @@ returns-in_err-write_le g c =
     let next = drop_at_item c.args.slice.now c.loop-x.x-index c.x-item.result c.loop-x-test.true c.x-item.is in
     record {
       takes = rw (p.1, p.2) (c.loop-x.invariant.takes _ _ (rw next (gave_short _ _ _ _ _ c.in_err-write_le.ensures.takes)));
-      kept = g.W.Sink.steady.on _ _ _ c.loop-x.invariant.kept c.in_err-write_le.ensures.kept;
+      kept = g.met.W.Sink.steady.on _ _ _ c.loop-x.invariant.kept c.in_err-write_le.ensures.kept;
     }
 
 pub loop-x-preserved : goal.loop-x-preserved
@@ -21,7 +21,7 @@ loop-x-preserved g c =
     let next = drop_at_item c.args.slice.now c.loop-x.x-index c.x-item.result c.loop-x-test.true c.x-item.is in
     record {
       takes = λ r m h. c.loop-x.invariant.takes r m (rw next (gave_on _ _ _ _ _ _ c.in_ok-write_le.ensures.takes h));
-      kept = g.W.Sink.steady.on _ _ _ c.loop-x.invariant.kept c.in_ok-write_le.ensures.kept;
+      kept = g.met.W.Sink.steady.on _ _ _ c.loop-x.invariant.kept c.in_ok-write_le.ensures.kept;
     }
 
 pub returns : goal.returns

@@ -14,5 +14,5 @@ returns g c =
     let bytes = bytes_joined g.A.FloatFields.parts g.B.FloatFields.parts _ (g.B.FloatFields.written c.args.self.1) (g.met.A.FloatFields.long c.args.self.0) in
     record {
       takes = gave_same _ _ _ _ _ bytes (gave_on _ _ _ _ _ _ c.in_ok-write.ensures.takes c.write-2.ensures.takes);
-      kept = g.S.Sink.steady.on _ _ _ c.in_ok-write.ensures.kept c.write-2.ensures.kept;
+      kept = g.met.S.Sink.steady.on _ _ _ c.in_ok-write.ensures.kept c.write-2.ensures.kept;
     }

@@ -15,4 +15,4 @@ returns-in_err-key_code-clause-takes g c =
 
 pub returns-clause-takes : goal.returns-clause-takes
 returns-clause-takes g c =
-    key_code_kept refl (filled_whole _ _ _ _ _ c.in_ok-read_exact.ensures.fills) _ c.read.result (c.in_ok-key_code.key_code, c.in_ok-key_code.field-0-1) (g.S.Source.proper _).bytes c.read.ensures c.map_err.ensures.cases c.in_ok-key_code.was
+    key_code_kept refl (filled_whole _ _ _ _ _ c.in_ok-read_exact.ensures.fills) _ c.read.result (c.in_ok-key_code.key_code, c.in_ok-key_code.field-0-1) (g.met.S.Source.proper _).bytes c.read.ensures c.map_err.ensures.cases c.in_ok-key_code.was
