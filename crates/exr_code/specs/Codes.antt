@@ -1,9 +1,10 @@
 -- The enumerations of the code, as the layout has them.
-use Rattle.std.specs.Prelude.{ℕ, Bool, List, [], ◌∷◌, Some, None, Ok, Err, Option, Result, to_bits, Float}
+use Rattle.std.specs.Prelude.{◌≡◌, ℕ, IfOk, Bool, List, [], ◌∷◌, Some, None, Ok, Err, Option, Result, to_bits, Float}
 use Rattle.std.specs.Float.{binary32}
 use Rattle.exr_error.specs.declared.refusal.Refusal.{Refusal}
 use Rattle.exr_error.specs.Refusals.{number_of}
 use Rattle.layout.specs.Fields.{Field}
+use Rattle.layout.specs.Questions.{asked}
 use Rattle.layout.specs.Enumerations as layout
 use Rattle.exr_code.specs.declared.compression.Compression.{Compression}
 use Rattle.exr_code.specs.declared.compression.Compression.TheVariants.{Uncompressed, RLE, ZIP1, ZIP16, PIZ, PXR24, B44, B44A, DWAA, DWAB, HTJ2K256, HTJ2K32}
@@ -16,6 +17,10 @@ use Rattle.exr_code.specs.declared.line_order.LineOrder.TheVariants.{Increasing,
 abbrev pub code_seen : {A : Type 0} → (A → ℕ) → Result A Refusal → Result ℕ ℕ
 code_seen code (Ok x) = Ok (code x)
 code_seen code (Err e) = Err (number_of e)
+
+-- the case of a code, without what a file does not hold of it, or the refusal of a code that is not listed
+abbrev pub Decodes : {A : Type 0} → (A → ℕ) → (ℕ → Bool) → ℕ → (A → Type 0) → ℕ → Result A Refusal → Type 0
+Decodes code listed question Bare n r = (code_seen code r ≡ asked (listed n) question n) × IfOk r Bare
 
 -- the one field of a code: a byte, of which is asked whether it is listed
 abbrev pub one_code : ℕ → (ℕ → Bool) → List Field

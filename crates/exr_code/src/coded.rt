@@ -1,9 +1,9 @@
-ghost use Rattle.std.specs.Prelude.{◌≡◌, ℕ, Bool, List, [], ◌∷◌, IfOk};
+ghost use Rattle.std.specs.Prelude.{◌≡◌, ℕ, Bool, List, [], ◌∷◌, IfOk, Result};
 ghost use Rattle.layout.specs.Fields.{Field, field_bytes, fields, size};
-ghost use Rattle.layout.specs.Questions.{asked};
+ghost use Rattle.exr_error.specs.declared.refusal.Refusal.{Refusal as RefusalOf};
 ghost use Rattle.exr_value.specs.Seen.{seen_by};
 ghost use Rattle.exr_sink.specs.Gifts.{GaveAll};
-ghost use Rattle.exr_code.specs.Codes.{code_seen, one_code};
+ghost use Rattle.exr_code.specs.Codes.{Decodes, one_code};
 
 use exr_data::data::Data;
 use exr_error::refusal::Refusal;
@@ -12,13 +12,14 @@ use exr_io::number::write_le;
 use exr_sink::sink::Sink;
 use exr_value::fields::Field;
 
-/// A value from a list, saved as a code of one byte.
-pub trait Coded: Copy {
-    // the code of each case
-    ghost code_of: { Self → ℕ };
-
+/// A value from a list, saved as a code of one byte: it becomes its code, and
+/// a code becomes it or the refusal of a code that is not listed.
+pub trait Coded: Copy + TryFrom<u8, Error = Refusal> + Into<u8> {
     // its kind's fields in the layout
     ghost kind: { List Field };
+
+    // the code of each case
+    ghost code_of: { Self → ℕ };
 
     // which codes are listed, and the number of the refusal of the others
     ghost listed: { ℕ → Bool };
@@ -27,16 +28,6 @@ pub trait Coded: Copy {
 
     // a case without what a file does not hold of it
     ghost Bare: { Self → Type 0 };
-
-    /// Its code.
-    fn code(self) -> u8
-        ensures { result ≡ code_of self };
-
-    /// The case of a code, without what a file does not hold, or the refusal
-    /// of a code that is not listed.
-    fn from_code(code: u8) -> Result<Self, Refusal>
-        ensures case { code_seen code_of result ≡ asked (listed code) question code }
-        ensures bare { IfOk result Bare };
 
     /// How many bytes it has in a file: 1.
     final fn byte_size() -> usize
@@ -52,7 +43,7 @@ pub trait Coded: Copy {
         ensures bare { IfOk result (λ p. Bare p.0) }
     {
         let (code, rest) = u8::read(bytes)?;
-        Ok((Self::from_code(code)?, rest))
+        Ok((Self::try_from(code)?, rest))
     }
 
     /// Gives its code to a sink.
@@ -60,8 +51,15 @@ pub trait Coded: Copy {
         ensures takes { GaveAll (W.means sink.old) (field_bytes kind (code_of self ∷ [])) result (W.means sink.new) }
         ensures kept { W.keeps sink.old sink.new }
     {
-        write_le(sink, self.code())
+        let code: u8 = self.into();
+        write_le(sink, code)
     }
+
+    // a case becomes its code
+    ghost to_code: { (x : Self) (n : ℕ) → Self.converts x n → n ≡ code_of x };
+
+    // a code becomes its case, or the refusal
+    ghost of_code: { (n : ℕ) (r : Result Self RefusalOf) → Self.try_from_gives n r → Decodes code_of listed question Bare n r };
 
     // the layout has one field for it: a byte, of which is asked whether it is listed
     ghost one: { kind ≡ one_code question listed };

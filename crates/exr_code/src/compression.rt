@@ -1,7 +1,7 @@
 ghost use Rattle.std.specs.Prelude.{◌≡◌, None, nat_le, refl};
 ghost use Rattle.layout.specs.Enumerations.{compression_code};
 ghost use Rattle.layout.specs.Kinds.{fields_of, compression};
-ghost use Rattle.exr_code.specs.Codes.{compression_of, level_of};
+ghost use Rattle.exr_code.specs.Codes.{Decodes, compression_of, level_of};
 
 use crate::coded::Coded;
 use exr_error::refusal::Refusal;
@@ -37,22 +37,12 @@ pub enum Compression {
     HTJ2K32,
 }
 
-/// A code that is not listed gets 8. What is read has no level.
-impl Coded for Compression {
-    ghost code_of = { λ e. compression_code (compression_of e) };
+/// Its code.
+impl From<Compression> for u8 {
+    ghost from_gives = { λ e code. code ≡ compression_code (compression_of e) };
 
-    ghost kind = { fields_of compression };
-
-    ghost listed = { λ code. nat_le code 11 };
-
-    ghost question = { 8 };
-
-    ghost Bare = { λ e. level_of e ≡ None };
-
-    ghost one = { refl };
-
-    fn code(self) -> u8 {
-        match self {
+    fn from(compression: Compression) -> u8 {
+        match compression {
             Compression::Uncompressed => 0,
             Compression::RLE => 1,
             Compression::ZIP1 => 2,
@@ -67,8 +57,15 @@ impl Coded for Compression {
             Compression::HTJ2K32 => 11,
         }
     }
+}
 
-    fn from_code(code: u8) -> Result<Compression, Refusal> {
+/// The case of a code, without a level; a code that is not listed gets 8.
+impl TryFrom<u8> for Compression {
+    type Error = Refusal;
+
+    ghost try_from_gives = { Decodes (λ e. compression_code (compression_of e)) (λ code. nat_le code 11) 8 (λ e. level_of e ≡ None) };
+
+    fn try_from(code: u8) -> Result<Compression, Refusal> {
         match code {
             0 => Ok(Compression::Uncompressed),
             1 => Ok(Compression::RLE),
@@ -85,4 +82,22 @@ impl Coded for Compression {
             _ => Err(Refusal::UnknownCompression),
         }
     }
+}
+
+impl Coded for Compression {
+    ghost kind = { fields_of compression };
+
+    ghost code_of = { λ e. compression_code (compression_of e) };
+
+    ghost listed = { λ code. nat_le code 11 };
+
+    ghost question = { 8 };
+
+    ghost Bare = { λ e. level_of e ≡ None };
+
+    ghost to_code = { λ x n h. h };
+
+    ghost of_code = { λ n r h. h };
+
+    ghost one = { refl };
 }

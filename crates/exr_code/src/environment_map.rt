@@ -1,7 +1,7 @@
-ghost use Rattle.std.specs.Prelude.{nat_le, refl};
+ghost use Rattle.std.specs.Prelude.{◌≡◌, nat_le, refl};
 ghost use Rattle.layout.specs.Enumerations.{envmap_code};
 ghost use Rattle.layout.specs.Kinds.{fields_of, envmap};
-ghost use Rattle.exr_code.specs.Codes.{envmap_of};
+ghost use Rattle.exr_code.specs.Codes.{Decodes, envmap_of};
 
 use crate::coded::Coded;
 use exr_error::refusal::Refusal;
@@ -15,11 +15,37 @@ pub enum EnvironmentMap {
     Cube,
 }
 
-/// A code that is not listed gets 7.
-impl Coded for EnvironmentMap {
-    ghost code_of = { λ e. envmap_code (envmap_of e) };
+/// Its code.
+impl From<EnvironmentMap> for u8 {
+    ghost from_gives = { λ e code. code ≡ envmap_code (envmap_of e) };
 
+    fn from(map: EnvironmentMap) -> u8 {
+        match map {
+            EnvironmentMap::LatitudeLongitude => 0,
+            EnvironmentMap::Cube => 1,
+        }
+    }
+}
+
+/// The case of a code; a code that is not listed gets 7.
+impl TryFrom<u8> for EnvironmentMap {
+    type Error = Refusal;
+
+    ghost try_from_gives = { Decodes (λ e. envmap_code (envmap_of e)) (λ code. nat_le code 1) 7 (λ _. Unit {0}) };
+
+    fn try_from(code: u8) -> Result<EnvironmentMap, Refusal> {
+        match code {
+            0 => Ok(EnvironmentMap::LatitudeLongitude),
+            1 => Ok(EnvironmentMap::Cube),
+            _ => Err(Refusal::UnknownCode),
+        }
+    }
+}
+
+impl Coded for EnvironmentMap {
     ghost kind = { fields_of envmap };
+
+    ghost code_of = { λ e. envmap_code (envmap_of e) };
 
     ghost listed = { λ code. nat_le code 1 };
 
@@ -27,20 +53,9 @@ impl Coded for EnvironmentMap {
 
     ghost Bare = { λ _. Unit {0} };
 
+    ghost to_code = { λ x n h. h };
+
+    ghost of_code = { λ n r h. h };
+
     ghost one = { refl };
-
-    fn code(self) -> u8 {
-        match self {
-            EnvironmentMap::LatitudeLongitude => 0,
-            EnvironmentMap::Cube => 1,
-        }
-    }
-
-    fn from_code(code: u8) -> Result<EnvironmentMap, Refusal> {
-        match code {
-            0 => Ok(EnvironmentMap::LatitudeLongitude),
-            1 => Ok(EnvironmentMap::Cube),
-            _ => Err(Refusal::UnknownCode),
-        }
-    }
 }

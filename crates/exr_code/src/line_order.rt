@@ -1,7 +1,7 @@
-ghost use Rattle.std.specs.Prelude.{nat_le, refl};
+ghost use Rattle.std.specs.Prelude.{◌≡◌, nat_le, refl};
 ghost use Rattle.layout.specs.Enumerations.{line_order_code};
 ghost use Rattle.layout.specs.Kinds.{fields_of, line_order};
-ghost use Rattle.exr_code.specs.Codes.{line_order_of};
+ghost use Rattle.exr_code.specs.Codes.{Decodes, line_order_of};
 
 use crate::coded::Coded;
 use exr_error::refusal::Refusal;
@@ -17,29 +17,26 @@ pub enum LineOrder {
     Unspecified,
 }
 
-/// A code that is not listed gets 7.
-impl Coded for LineOrder {
-    ghost code_of = { λ e. line_order_code (line_order_of e) };
+/// Its code.
+impl From<LineOrder> for u8 {
+    ghost from_gives = { λ e code. code ≡ line_order_code (line_order_of e) };
 
-    ghost kind = { fields_of line_order };
-
-    ghost listed = { λ code. nat_le code 2 };
-
-    ghost question = { 7 };
-
-    ghost Bare = { λ _. Unit {0} };
-
-    ghost one = { refl };
-
-    fn code(self) -> u8 {
-        match self {
+    fn from(order: LineOrder) -> u8 {
+        match order {
             LineOrder::Increasing => 0,
             LineOrder::Decreasing => 1,
             LineOrder::Unspecified => 2,
         }
     }
+}
 
-    fn from_code(code: u8) -> Result<LineOrder, Refusal> {
+/// The case of a code; a code that is not listed gets 7.
+impl TryFrom<u8> for LineOrder {
+    type Error = Refusal;
+
+    ghost try_from_gives = { Decodes (λ e. line_order_code (line_order_of e)) (λ code. nat_le code 2) 7 (λ _. Unit {0}) };
+
+    fn try_from(code: u8) -> Result<LineOrder, Refusal> {
         match code {
             0 => Ok(LineOrder::Increasing),
             1 => Ok(LineOrder::Decreasing),
@@ -47,4 +44,22 @@ impl Coded for LineOrder {
             _ => Err(Refusal::UnknownCode),
         }
     }
+}
+
+impl Coded for LineOrder {
+    ghost kind = { fields_of line_order };
+
+    ghost code_of = { λ e. line_order_code (line_order_of e) };
+
+    ghost listed = { λ code. nat_le code 2 };
+
+    ghost question = { 7 };
+
+    ghost Bare = { λ _. Unit {0} };
+
+    ghost to_code = { λ x n h. h };
+
+    ghost of_code = { λ n r h. h };
+
+    ghost one = { refl };
 }

@@ -1,6 +1,7 @@
-ghost use Rattle.std.specs.Prelude.{[], ◌∷◌, refl};
+ghost use Rattle.std.specs.Prelude.{◌≡◌, [], ◌∷◌, refl};
 ghost use Rattle.layout.specs.Enumerations.{mode_byte};
 ghost use Rattle.layout.specs.Kinds.{is_mode, mode};
+ghost use Rattle.exr_code.specs.Codes.{Decodes};
 ghost use Rattle.exr_tile.specs.Tiles.{level_of, rounding_of};
 
 use crate::level_mode::LevelMode;
@@ -16,34 +17,31 @@ pub(crate) struct Modes {
     pub(crate) rounding: RoundingMode,
 }
 
-/// A mode byte that is not listed gets 7.
-impl Coded for Modes {
-    ghost code_of = { λ m. mode_byte (level_of m.level) (rounding_of m.rounding) };
+/// The mode byte.
+impl From<Modes> for u8 {
+    ghost from_gives = { λ m code. code ≡ mode_byte (level_of m.level) (rounding_of m.rounding) };
 
-    ghost kind = { mode ∷ [] };
-
-    ghost listed = { is_mode };
-
-    ghost question = { 7 };
-
-    ghost Bare = { λ _. Unit {0} };
-
-    ghost one = { refl };
-
-    fn code(self) -> u8 {
-        let level = match self.level {
+    fn from(modes: Modes) -> u8 {
+        let level = match modes.level {
             LevelMode::Singular => 0,
             LevelMode::MipMap => 1,
             LevelMode::RipMap => 2,
         };
-        let rounding = match self.rounding {
+        let rounding = match modes.rounding {
             RoundingMode::Down => 0,
             RoundingMode::Up => 1,
         };
         level + 16 * rounding
     }
+}
 
-    fn from_code(code: u8) -> Result<Modes, Refusal> {
+/// The two modes of a mode byte; one that is not listed gets 7.
+impl TryFrom<u8> for Modes {
+    type Error = Refusal;
+
+    ghost try_from_gives = { Decodes (λ m. mode_byte (level_of m.level) (rounding_of m.rounding)) is_mode 7 (λ _. Unit {0}) };
+
+    fn try_from(code: u8) -> Result<Modes, Refusal> {
         let (level, rounding) = match code {
             0 => (LevelMode::Singular, RoundingMode::Down),
             1 => (LevelMode::MipMap, RoundingMode::Down),
@@ -55,4 +53,22 @@ impl Coded for Modes {
         };
         Ok(Modes { level, rounding })
     }
+}
+
+impl Coded for Modes {
+    ghost kind = { mode ∷ [] };
+
+    ghost code_of = { λ m. mode_byte (level_of m.level) (rounding_of m.rounding) };
+
+    ghost listed = { is_mode };
+
+    ghost question = { 7 };
+
+    ghost Bare = { λ _. Unit {0} };
+
+    ghost to_code = { λ m n h. h };
+
+    ghost of_code = { λ n r h. h };
+
+    ghost one = { refl };
 }
