@@ -1,6 +1,8 @@
 ghost use Rattle.std.specs.Prelude.{◌≡◌, ℕ, ◌%◌, ◌<◌, ◌≤◌};
 ghost use Rattle.layout.specs.Numbers.{range};
 
+// No member or law has a default: a default is one term for all types, and each
+// type has its own bits. A macro may not write the impls.
 /// A number of `BYTE_SIZE` bytes, which reads back from them.
 pub trait Data: Copy {
     // which values there are

@@ -39,8 +39,8 @@ impl<W: FloatWord> OfFloats for FloatBits<W> {
 }
 
 impl<W: FloatWord> FloatBits<W> {
-    /// The bits as they are read: every pattern that is not a number becomes
-    /// one.
+    /// The bits as they are read: all patterns that are not a number become
+    /// the one that their float has.
     pub fn from_bits(bits: W) -> Self
         ensures { W.bits result.bits ≡ W.keeps (W.bits bits) }
     {
@@ -48,6 +48,8 @@ impl<W: FloatWord> FloatBits<W> {
         FloatBits::from_floats(W::Float::from_word(word))
     }
 
+    // No ghost field says that bits are kept: with any word as bits, theorems
+    // and clauses speak of plain numbers, and need no proof beside each.
     /// The bits as they are written.
     pub fn to_bits(self) -> W
         ensures { W.bits result ≡ W.keeps (W.bits self.bits) }
