@@ -1,10 +1,8 @@
 -- One run of bytes given after another.
-use Rattle.std.proofs.Common.{◌≡◌, ℕ, ◌+◌, ◌-◌, ◌<◌, ◌≤◌, min, leb, List, [], ◌∷◌, ◌++◌, length, get_or, take, drop, Ok, Err, Result, sym, refl, ap, ◌∙◌, subst, append_assoc, arith, le-leb, leb-false, leb-true}
+use Rattle.std.proofs.Common.{◌≡◌, ◌+◌, ◌-◌, ◌<◌, ◌≤◌, min, leb, [], ◌++◌, length, take, Ok, Err, Result, sym, refl, ap, ◌∙◌, subst, append_assoc, arith, le-leb, leb-false, leb-true}
 use borrow.Author.Tests.{lt-leb}
 use Rattle.std.proofs.lemmas.Bool.Decides.{nat_tests}
-use Rattle.std.specs.List.{flat_map}
-use Rattle.std.proofs.lemmas.Grind.{flat_map-append}
-use Rattle.std.proofs.lemmas.List.{length-append, take_all, take_at, drop_at, take-append-le, append-nil, take_more, take-append-drop}
+use Rattle.std.proofs.lemmas.List.{length-append, take_all, take_at, drop_at, take-append-le, append-nil}
 use Rattle.exr_error.specs.declared.stop.Full.{Full}
 use Rattle.layout.specs.Numbers.{Bytes}
 use Rattle.layout.specs.Streams.{SinkMeaning, sink_of, with}
@@ -76,16 +74,3 @@ gave_short m xs bs e m' g =
       answer = g.answer ∙ ap (λ x. all_or x (full m.stop)) (sym b);
       after = g.after ∙ ap (λ x. with x xs m) n ∙ ap (λ x. sink_of (m.taken ++ x) (m.room - m.room) m.stop) (sym t) ∙ ap (λ x. with x (xs ++ bs) m) (sym k);
     }
-
-module _ {X : Type 0} (f : X → Bytes) where
-  pub joined_next : (xs : List X) (i : ℕ) (x : X) → i < length xs → x ≡ get_or xs i x → flat_map f (take (i + 1) xs) ≡ flat_map f (take i xs) ++ f x
-  joined_next xs i x within read =
-      ap (flat_map f) (take_more xs i x within)
-      ∙ flat_map-append f (take i xs) (get_or xs i x ∷ [])
-      ∙ ap (λ l. flat_map f (take i xs) ++ l) (append-nil (f (get_or xs i x)) ∙ ap f (sym read))
-
-  pub joined_split : (xs : List X) (i : ℕ) (x : X) → i < length xs → x ≡ get_or xs i x → flat_map f xs ≡ (flat_map f (take i xs) ++ f x) ++ flat_map f (drop (i + 1) xs)
-  joined_split xs i x within read =
-      sym (ap (flat_map f) (take-append-drop (i + 1) xs))
-      ∙ flat_map-append f (take (i + 1) xs) (drop (i + 1) xs)
-      ∙ ap (λ l. l ++ flat_map f (drop (i + 1) xs)) (joined_next xs i x within read)
