@@ -8,7 +8,7 @@ const LIMIT: i32 = 1073741822;
 
 /// The places of a box on one axis: the least, and how many there are. There
 /// is at least one, and all are in range.
-#[derive(Clone, Copy)]
+#[derive(Clone, Copy, PartialEq, Eq)]
 pub(crate) struct Axis {
     pub(crate) least: i32,
     pub(crate) side: usize,
@@ -23,6 +23,7 @@ impl Axis {
     pub(crate) fn new(least: i32, side: usize) -> Result<Self, Refusal>
         ensures { axis_seen result ≡ make_axis (least, side) }
     {
+        // `as` from u32 to usize here and below: std has no From for the pair
         let begins = (-LIMIT..=LIMIT).contains(&least);
         if begins && 0 < side && side - 1 <= least.abs_diff(LIMIT) as usize {
             Ok(Axis { least, side })
@@ -50,6 +51,7 @@ impl Axis {
     pub(crate) fn last(self) -> i32
         ensures { result ≡ last_of self.least self.side }
     {
+        // it fits, by the invariant: a TryFrom would answer a failure that cannot come
         self.least + (self.side - 1) as i32
     }
 

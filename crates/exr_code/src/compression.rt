@@ -6,6 +6,7 @@ ghost use Rattle.exr_code.specs.Codes.{Decodes, compression_of, level_of};
 use crate::coded::Coded;
 use exr_error::refusal::Refusal;
 
+// No `==`: the level is a float, and floats are compared by their bits alone.
 /// How the pixels of an image are compressed.
 #[derive(Clone, Copy)]
 pub enum Compression {

@@ -22,10 +22,11 @@ impl Data for u16 {
     ghost back = { Prim.search rules };
 
     fn to_word(self) -> u64 {
-        self as u64
+        u64::from(self)
     }
 
     fn from_word(word: u64) -> u16 {
+        // a remainder always fits: a TryFrom would answer a failure that cannot come
         (word % 0x1_0000) as u16
     }
 }

@@ -26,10 +26,11 @@ impl Data for u32 {
     ghost back = { Prim.search rules };
 
     fn to_word(self) -> u64 {
-        self as u64
+        u64::from(self)
     }
 
     fn from_word(word: u64) -> u32 {
+        // a remainder always fits: a TryFrom would answer a failure that cannot come
         (word % 0x1_0000_0000) as u32
     }
 }

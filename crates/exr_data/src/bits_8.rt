@@ -22,10 +22,11 @@ impl Data for u8 {
     ghost back = { Prim.search rules };
 
     fn to_word(self) -> u64 {
-        self as u64
+        u64::from(self)
     }
 
     fn from_word(word: u64) -> u8 {
+        // a remainder always fits: a TryFrom would answer a failure that cannot come
         (word % 0x100) as u8
     }
 }

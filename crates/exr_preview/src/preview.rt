@@ -59,6 +59,7 @@ impl<'a> Preview<'a> {
         let (width, rest) = u32::read(bytes)?;
         let (height, rest) = u32::read(rest)?;
         let (pixel_data, rest) = read_pixels(rest, pixel_bytes(Vec2(width, height)))?;
+        // `as`, also of the length below: std has no From for u32 to usize and usize to u128
         let size = Vec2(width as usize, height as usize);
         Ok((Preview { size, pixel_data }, rest))
     }

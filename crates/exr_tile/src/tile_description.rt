@@ -57,6 +57,7 @@ impl TileDescription {
         let (height, rest) = u32::read(rest)?;
         let (modes, rest) = Modes::read(rest)?;
         let found = TileDescription {
+            // `as`: std has no From for u32 to usize
             tile_size: Vec2(width as usize, height as usize),
             level_mode: modes.level,
             rounding_mode: modes.rounding,

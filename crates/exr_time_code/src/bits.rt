@@ -11,6 +11,7 @@ impl Word {
         requires { (from < 32) × (width ≤ 4) }
         ensures { (result ≡ field from width self.0) × (result < 16) }
     {
+        // a remainder below 16 always fits: a TryFrom would answer a failure that cannot come
         ((self.0 >> from) % (1 << width)) as u8
     }
 
