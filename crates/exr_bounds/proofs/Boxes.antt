@@ -1,12 +1,12 @@
 -- A box is good exactly if both its axes are.
-use Rattle.std.proofs.Common.{◌≡◌, ℕ, ◌+◌, Bool, true, false, ◌&&◌, ℤ, pos, ◌+ℤ◌, ◌-ℤ◌, unsigned_abs, Ok, Err, refl, arith}
+use Rattle.std.proofs.Common.{◌≡◌, ℕ, ◌+◌, Bool, true, false, ◌&&◌, ℤ, pos, ◌+ℤ◌, ◌-ℤ◌, unsigned_abs, Ok, Err, arith}
 use Rattle.std.specs.Int.{int_min, int_max}
 use Rattle.std.proofs.lemmas.Int.{ints}
 use Rattle.layout.specs.Questions.{asked}
-use Rattle.layout.specs.Boxes.{Box, axis_good, box_good, make_box}
+use Rattle.layout.specs.Boxes.{Box, axis_good, make_box}
 use Rattle.exr_bounds.specs.declared.axis.Axis.{Axis}
 use Rattle.exr_bounds.specs.Axes.{make_axis}
-use Rattle.exr_bounds.specs.Bounds.{box_of, BoxesStand}
+use Rattle.exr_bounds.specs.Bounds.{box_of}
 
 abbrev box : ℤ × ℕ → ℤ × ℕ → Box
 box a b = record { position = (a.0, b.0); size = (a.1, b.1) }
@@ -41,12 +41,3 @@ two_axes b x y e f =
 -- how many places there are from one to another
 pub places : (a b : ℤ) → unsigned_abs (a -ℤ b) + 1 ≡ unsigned_abs (int_max a b -ℤ int_min a b +ℤ pos 1)
 places a b = grind (arith, ints)
-
--- ---- every value of the type
-
-asked_for : (t : Bool) (b c : Box) → asked t 11 b ≡ Ok c → c ≡ b
-asked_for true b c e = cc
-asked_for false b c e = cc
-
-pub boxes_stand_lem : BoxesStand
-boxes_stand_lem = record { ranged = λ b. rw (b.x.good, b.y.good) refl; made = λ b c e. asked_for (box_good b) b (box_of c) e }

@@ -1,5 +1,5 @@
-//! Boxes of integers, which only two calls make: each value of the type is in
-//! range.
+//! Boxes of integers, which only calls that ask their range make: each value of
+//! the type is in range.
 #![tactic(auto)]
 
 mod axis;

@@ -30,10 +30,16 @@ abbrev pub envmap_of : EnvironmentMap → layout.Envmap
 envmap_of LatitudeLongitude = layout.LatitudeLongitude
 envmap_of Cube = layout.Cube
 
+abbrev pub envmap_number : EnvironmentMap → ℕ
+envmap_number e = layout.envmap_code (envmap_of e)
+
 abbrev pub line_order_of : LineOrder → layout.LineOrder
 line_order_of Increasing = layout.Increasing
 line_order_of Decreasing = layout.Decreasing
 line_order_of Unspecified = layout.Unspecified
+
+abbrev pub line_order_number : LineOrder → ℕ
+line_order_number e = layout.line_order_code (line_order_of e)
 
 abbrev pub compression_of : Compression → layout.Compression
 compression_of Uncompressed = layout.Uncompressed
@@ -48,6 +54,9 @@ compression_of (DWAA l) = layout.Dwaa
 compression_of (DWAB l) = layout.Dwab
 compression_of HTJ2K256 = layout.Htj2k256
 compression_of HTJ2K32 = layout.Htj2k32
+
+abbrev pub compression_number : Compression → ℕ
+compression_number e = layout.compression_code (compression_of e)
 
 -- the level's bits, where one is given
 abbrev pub level_bits : Option Float → Option ℕ

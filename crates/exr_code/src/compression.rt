@@ -1,7 +1,6 @@
 ghost use Rattle.std.specs.Prelude.{◌≡◌, None, nat_le, refl};
-ghost use Rattle.layout.specs.Enumerations.{compression_code};
 ghost use Rattle.layout.specs.Kinds.{fields_of, compression};
-ghost use Rattle.exr_code.specs.Codes.{Decodes, compression_of, level_of};
+ghost use Rattle.exr_code.specs.Codes.{Decodes, compression_number, level_of};
 
 use crate::coded::Coded;
 use exr_error::refusal::Refusal;
@@ -40,7 +39,7 @@ pub enum Compression {
 
 /// Its code.
 impl From<Compression> for u8 {
-    ghost from_gives = { λ e code. code ≡ compression_code (compression_of e) };
+    ghost from_gives = { λ e code. code ≡ compression_number e };
 
     fn from(compression: Compression) -> u8 {
         match compression {
@@ -64,7 +63,7 @@ impl From<Compression> for u8 {
 impl TryFrom<u8> for Compression {
     type Error = Refusal;
 
-    ghost try_from_gives = { Decodes (λ e. compression_code (compression_of e)) (λ code. nat_le code 11) 8 (λ e. level_of e ≡ None) };
+    ghost try_from_gives = { Decodes compression_number (λ code. nat_le code 11) 8 (λ e. level_of e ≡ None) };
 
     fn try_from(code: u8) -> Result<Compression, Refusal> {
         match code {
@@ -88,7 +87,7 @@ impl TryFrom<u8> for Compression {
 impl Coded for Compression {
     ghost kind = { fields_of compression };
 
-    ghost code_of = { λ e. compression_code (compression_of e) };
+    ghost code_of = { compression_number };
 
     ghost listed = { λ code. nat_le code 11 };
 

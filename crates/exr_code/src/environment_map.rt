@@ -1,7 +1,6 @@
 ghost use Rattle.std.specs.Prelude.{◌≡◌, nat_le, refl};
-ghost use Rattle.layout.specs.Enumerations.{envmap_code};
 ghost use Rattle.layout.specs.Kinds.{fields_of, envmap};
-ghost use Rattle.exr_code.specs.Codes.{Decodes, envmap_of};
+ghost use Rattle.exr_code.specs.Codes.{Decodes, envmap_number};
 
 use crate::coded::Coded;
 use exr_error::refusal::Refusal;
@@ -17,7 +16,7 @@ pub enum EnvironmentMap {
 
 /// Its code.
 impl From<EnvironmentMap> for u8 {
-    ghost from_gives = { λ e code. code ≡ envmap_code (envmap_of e) };
+    ghost from_gives = { λ e code. code ≡ envmap_number e };
 
     fn from(map: EnvironmentMap) -> u8 {
         match map {
@@ -31,7 +30,7 @@ impl From<EnvironmentMap> for u8 {
 impl TryFrom<u8> for EnvironmentMap {
     type Error = Refusal;
 
-    ghost try_from_gives = { Decodes (λ e. envmap_code (envmap_of e)) (λ code. nat_le code 1) 7 (λ _. Unit {0}) };
+    ghost try_from_gives = { Decodes envmap_number (λ code. nat_le code 1) 7 (λ _. Unit {0}) };
 
     fn try_from(code: u8) -> Result<EnvironmentMap, Refusal> {
         match code {
@@ -45,7 +44,7 @@ impl TryFrom<u8> for EnvironmentMap {
 impl Coded for EnvironmentMap {
     ghost kind = { fields_of envmap };
 
-    ghost code_of = { λ e. envmap_code (envmap_of e) };
+    ghost code_of = { envmap_number };
 
     ghost listed = { λ code. nat_le code 1 };
 

@@ -1,7 +1,6 @@
 ghost use Rattle.std.specs.Prelude.{◌≡◌, nat_le, refl};
-ghost use Rattle.layout.specs.Enumerations.{line_order_code};
 ghost use Rattle.layout.specs.Kinds.{fields_of, line_order};
-ghost use Rattle.exr_code.specs.Codes.{Decodes, line_order_of};
+ghost use Rattle.exr_code.specs.Codes.{Decodes, line_order_number};
 
 use crate::coded::Coded;
 use exr_error::refusal::Refusal;
@@ -19,7 +18,7 @@ pub enum LineOrder {
 
 /// Its code.
 impl From<LineOrder> for u8 {
-    ghost from_gives = { λ e code. code ≡ line_order_code (line_order_of e) };
+    ghost from_gives = { λ e code. code ≡ line_order_number e };
 
     fn from(order: LineOrder) -> u8 {
         match order {
@@ -34,7 +33,7 @@ impl From<LineOrder> for u8 {
 impl TryFrom<u8> for LineOrder {
     type Error = Refusal;
 
-    ghost try_from_gives = { Decodes (λ e. line_order_code (line_order_of e)) (λ code. nat_le code 2) 7 (λ _. Unit {0}) };
+    ghost try_from_gives = { Decodes line_order_number (λ code. nat_le code 2) 7 (λ _. Unit {0}) };
 
     fn try_from(code: u8) -> Result<LineOrder, Refusal> {
         match code {
@@ -49,7 +48,7 @@ impl TryFrom<u8> for LineOrder {
 impl Coded for LineOrder {
     ghost kind = { fields_of line_order };
 
-    ghost code_of = { λ e. line_order_code (line_order_of e) };
+    ghost code_of = { line_order_number };
 
     ghost listed = { λ code. nat_le code 2 };
 

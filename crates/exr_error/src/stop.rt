@@ -7,7 +7,7 @@ pub enum Stop {
     Device(u8),
 }
 
-// A number and no enum: it is the device's, and any of the 255 may come.
+// A number and no enum: it is the sink's, and any of the 255 may come.
 /// A sink takes no more bytes: its stop, a number from 1 to 255.
 #[derive(Clone, Copy, PartialEq, Eq)]
 pub struct Full {

@@ -25,7 +25,7 @@ held bs = map (λ b. b.bits) bs
 abbrev pub written : List (FloatBits ℕ) → List ℕ
 written bs = map (λ b. single b.bits) bs
 
--- both ways between floats and bits are these
+-- what makes bits of floats, and floats of bits, is the two functions named first
 pub record OneByTheOther {F B : Type 0} (bits : F → B) (floats : B → F) (bits_of : F → B) (floats_of : B → F) : Type 0 where
   pub to : (x : F) → bits_of x ≡ bits x
   pub from : (b : B) → floats_of b ≡ floats b

@@ -1,5 +1,6 @@
 -- Patterns of bits, read as floats and written again.
 use Rattle.std.proofs.Common.{◌≡◌, ℕ, ◌+◌, ◌*◌, ◌/◌, ◌%◌, ◌<◌, Bool, true, false, cond, not, T, ltb, sym, refl, ap, ◌∙◌, subst}
+use Rattle.std.proofs.lemmas.Bool.{false≢true}
 use lib.Ieee.{Float, nan, inf, fin, Format, binary32, binary64, hid, ones, top, is_nan, of_bits, to_bits}
 use lib.Ieee.Bits.{of_bits-to_bits, of_bits-fits, to_bits-of_bits, nan_bits_is, nan_bits_above}
 use Rattle.layout.specs.Floats.{one_nan, single, double}
@@ -12,8 +13,8 @@ quiet f = ones f * hid f + hid f / 2
 nan_kept : (f : Format) (x : Float) → is_nan x ≡ true → to_bits f x ≡ quiet f
 unfolding is_nan to_bits
 nan_kept f nan e = refl
-nan_kept f (inf s) e = cc
-nan_kept f (fin s m k) e = cc
+nan_kept f (inf s) e = absurd (false≢true e)
+nan_kept f (fin s m k) e = absurd (false≢true e)
 
 by_case : (f : Format) (n : ℕ) (b : Bool) → n < 2 * top f → is_nan (of_bits f n) ≡ b → to_bits f (of_bits f n) ≡ cond b (quiet f) n
 by_case f n true h e = nan_kept f (of_bits f n) e

@@ -4,6 +4,8 @@ use crate::values::OfFloats;
 use crate::word::FloatWord;
 use exr_data::data::Data;
 
+// No ghost field says that bits are kept: with any word as bits, theorems and
+// clauses speak of plain numbers, and need no proof beside each.
 /// A float by its bits. All that is not a number is one value, with the bits
 /// 7FC00000, or of 64 bits 7FF8000000000000. Equal are those with equal bits:
 /// 0.0 and -0.0 differ, and what is not a number equals itself.
@@ -48,8 +50,6 @@ impl<W: FloatWord> FloatBits<W> {
         FloatBits::from_floats(W::Float::from_word(word))
     }
 
-    // No ghost field says that bits are kept: with any word as bits, theorems
-    // and clauses speak of plain numbers, and need no proof beside each.
     /// The bits as they are written.
     pub fn to_bits(self) -> W
         ensures { W.bits result ≡ W.keeps (W.bits self.bits) }

@@ -22,6 +22,7 @@ pub trait FloatWord: Data {
     ghost kept: { (n : ℕ) → n < range Self.BYTE_SIZE → Self.Float.bits (Self.Float.value n) ≡ keeps n };
 }
 
+// An impl for each width: its float and its not-a-number are its own, and a macro may not write impls.
 impl FloatWord for u32 {
     type Float = f32;
 

@@ -57,6 +57,8 @@ impl<W: FloatWord + Field> FloatFields for FloatBits<W> {
     }
 }
 
+// A pair, a vector and a triple have an impl each, since no bound covers a struct and a tuple; the
+// last two are put together from pairs.
 /// One value, and another behind it.
 impl<A: FloatFields, B: FloatFields> FloatFields for (A, B) {
     ghost parts = { A.parts ++ B.parts };

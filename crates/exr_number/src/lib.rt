@@ -25,7 +25,7 @@ pub trait Number: Copy + Ord + From<u8> {
     fn checked_add(self, other: Self) -> Option<Self>
         ensures { Answers value (Within range) (value self +ℤ value other) result };
 
-    /// The difference, or `None` exactly where it lies outside the range. This number lies in it.
+    /// The difference, or `None` exactly where it lies outside the range. `self` lies in the range.
     fn checked_sub(self, other: Self) -> Option<Self>
         ensures answer { Answers value (Within range) (value self -ℤ value other) result }
         ensures within { Within range (value self) };
@@ -35,7 +35,7 @@ pub trait Number: Copy + Ord + From<u8> {
         ensures { Answers value (Within range) (value self *ℤ value other) result };
 
     /// The quotient rounded toward zero, or `None` exactly where `other` is 0 or the quotient lies
-    /// outside the range. This number lies in it.
+    /// outside the range. `self` lies in the range.
     fn checked_div(self, other: Self) -> Option<Self>
         ensures answer { Answers value (QuotientFits range (value other)) (int_div (value self) (value other)) result }
         ensures within { Within range (value self) };

@@ -5,7 +5,8 @@ ghost use Rattle.std.proofs.Common.{rules};
 
 use crate::Number;
 
-// A macro that writes this impl and that of `usize` would be no shorter to read.
+// No member has a default: a default is one term for all types, and each type has its own range and
+// operations. A macro may not write the impls.
 impl Number for i32 {
     ghost value = { λ x. x };
 

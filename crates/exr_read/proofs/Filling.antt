@@ -1,14 +1,14 @@
 -- A buffer that is filled from its start in several requests.
-use Rattle.std.proofs.Common.{◌≡◌, ℕ, ◌+◌, ◌-◌, ◌<◌, ◌≤◌, Bool, true, leb, List, [], ◌++◌, length, take, drop, Ok, Err, Option, sym, ap, ◌∙◌, arith, le-leb, leb-false, leb-true}
+use Rattle.std.proofs.Common.{◌≡◌, ℕ, ◌+◌, ◌-◌, ◌<◌, ◌≤◌, Bool, true, leb, List, [], ◌++◌, length, take, drop, Ok, Err, Option, Result, sym, ap, subst, ◌∙◌, arith, leb-false, leb-true}
 use borrow.Rule.Slice.PartMut.{put_mid}
-use borrow.Author.Tests.{lt-leb}
 use Rattle.std.proofs.lemmas.List.{append-nil, append_assoc, length-take-le, length-drop, take-append-drop, drop-drop, drop_all, take_at, drop_at, take_rest}
 use Rattle.exr_error.specs.declared.stop.Stop.{Stop}
 use Rattle.layout.specs.Numbers.{Bytes}
 use Rattle.layout.proofs.Parts.{take_add, lent}
 use Rattle.layout.specs.Streams.{SourceMeaning, source_of, after}
 use Rattle.exr_read.specs.declared.read.Short.{Short}
-use Rattle.exr_source.specs.Requests.{stop_at, laid, Given, Stopped}
+use Rattle.exr_source.specs.Requests.{laid, Given, Requested}
+use Rattle.std.specs.Result.{MatchResult, IsErrAnd}
 use Rattle.exr_source.specs.Whole.{all_or}
 use Rattle.exr_source.proofs.Whole.{ok_whole, err_whole}
 use Rattle.exr_read.specs.Fills.{short, come, Filled}
@@ -62,31 +62,6 @@ module _ (m : SourceMeaning) (buffer : Bytes) (f : ℕ) (m' : SourceMeaning) (bu
         left = g.left ∙ ap (after k) i.left ∙ ap (λ x. source_of x m.stop) (drop-drop k f m.bytes);
       }
 
-  pub filling_stopped : (e : Stop) (m'' : SourceMeaning) (part : Bytes) → Stopped m' (lent f buffer') e m'' part → Filled m buffer (Err (record { stop = e; got = f })) m'' (put_mid f (length buffer' - f) buffer' part)
-  filling_stopped e m'' part s =
-      let none : length m'.bytes ≡ 0 = ap length s.none in
-      let all : f ≡ length m.bytes = omega (arith, i.there, left_length, none) in
-      let less : length m.bytes < length buffer = omega (arith, s.asked, lent_length, all) in
-      let so_far : come (length buffer) m ≡ f = omega (arith, all, less) in
-      let why : e ≡ stop_at m.stop = s.why ∙ ap (λ x. stop_at x.stop) i.left in
-      let same : put_mid f (length buffer' - f) buffer' part ≡ buffer' = put_rest f buffer' part ∙ ap (λ x. take f buffer' ++ x) (s.laid_in ∙ take_rest buffer' f) ∙ take-append-drop f buffer' in
-      record {
-        answer = ap (λ x. Err (record { stop = x; got = f })) why ∙ ap (λ n. Err (short m.stop n)) all ∙ sym (ap (λ b. all_or b (short m.stop (length m.bytes))) (lt-leb (length buffer) (length m.bytes) less));
-        laid_in = same ∙ i.laid_in ∙ ap (λ n. laid n m.bytes buffer) (sym so_far);
-        left = s.left ∙ i.left ∙ ap (λ n. after n m) (sym so_far);
-      }
-
-  pub filling_done : length buffer ≤ f → Filled m buffer (Ok tt) m' buffer'
-  filling_done h =
-      let n : f ≡ length buffer = omega (arith, i.asked, h) in
-      let enough : length buffer ≤ length m.bytes = omega (arith, i.there, n) in
-      let so_far : come (length buffer) m ≡ f = omega (arith, n, enough) in
-      record {
-        answer = sym (ap (λ b. all_or b (short m.stop (length m.bytes))) (le-leb (length buffer) (length m.bytes) enough));
-        laid_in = i.laid_in ∙ ap (λ n. laid n m.bytes buffer) (sym so_far);
-        left = i.left ∙ ap (λ n. after n m) (sym so_far);
-      }
-
 -- ---- what a filled buffer tells
 
 pub ok_all : (b : Bool) (x : Unit {0}) (s : Option ℕ) (n : ℕ) → Ok x ≡ all_or b (short s n) → b ≡ true
@@ -131,3 +106,8 @@ filled_cut m buffer s m' buffer' f =
       why = p.1;
       left = f.left ∙ ap (λ k. after k m) all ∙ ap (λ bs. source_of bs m.stop) (drop_all (length m.bytes) m.bytes (omega arith));
     }
+
+-- what was asked for is as it was answered, also where a stop is mapped
+pub given_mapped : {m : SourceMeaning} {buffer : Bytes} {m' : SourceMeaning} {buffer' : Bytes} {E : Type 0} {s : Result ℕ E} (Q : Stop → E → Type 0) (r : Result ℕ Stop) (k : ℕ) → Requested m buffer r m' buffer' → MatchResult r (λ x. s ≡ Ok x) (λ d. IsErrAnd s (Q d)) → s ≡ Ok k → Given m buffer k m' buffer'
+given_mapped {m} {buffer} {m'} {buffer'} Q (Ok j) k a h q = let same : j ≡ k = cc in subst (λ (n : ℕ). Given m buffer n m' buffer') same a
+given_mapped Q (Err d) k a h q = absurd (let z : IsErrAnd (Ok k) (Q d) = rw q at h in z)

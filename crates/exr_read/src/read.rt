@@ -44,10 +44,9 @@ pub fn read_exact<S: Source>(source: &mut S, buffer: &mut [u8]) -> Result<(), Sh
     // a loop with a count, since the buffer is lent from its filled count on and a stop tells the count
     let mut filled = 0;
     while filled < buffer.len() {
-        match source.read(&mut buffer[filled..]) {
-            Ok(k) => filled += k,
-            Err(stop) => return Err(Short { stop, got: filled }),
-        }
+        filled += source
+            .read(&mut buffer[filled..])
+            .map_err(|stop| Short { stop, got: filled })?;
     }
     Ok(())
 }

@@ -1,14 +1,13 @@
 -- Bytes that a sink takes in several gifts.
-use Rattle.std.proofs.Common.{◌≡◌, ℕ, ◌-◌, min, ◌++◌, length, take, drop, Ok, Err, Result, sym, ap, ◌∙◌, arith, le-leb}
-use borrow.Author.Tests.{lt-leb}
+use Rattle.std.proofs.Common.{◌≡◌, ℕ, ◌-◌, min, ◌++◌, length, take, drop, Ok, Result, sym, ap, ◌∙◌, arith, le-leb}
 use Rattle.std.proofs.lemmas.List.{length-take-le, take_all, take_rest, take-append-drop}
 use Rattle.exr_error.specs.declared.stop.Full.{Full}
 use Rattle.layout.specs.Numbers.{Bytes}
 use Rattle.layout.specs.Streams.{SinkMeaning, sink_of, with}
 use Rattle.layout.proofs.Parts.{lent}
 use Rattle.exr_source.specs.Whole.{all_or}
-use Rattle.exr_sink.specs.Gifts.{full, Took, Refused, GaveAll}
-use Rattle.exr_sink.proofs.Runs.{gave_on, gave_same, with_none}
+use Rattle.exr_sink.specs.Gifts.{full, Took, GaveAll}
+use Rattle.exr_sink.proofs.Runs.{gave_on, gave_same}
 
 -- the bytes of one gift that were taken were all taken
 took_all : (m : SinkMeaning) (bs : Bytes) (k : ℕ) (m' : SinkMeaning) → Took m bs k m' → GaveAll m (take k bs) (Ok tt) m'
@@ -25,12 +24,3 @@ pub took_on : (m : SinkMeaning) (bs : Bytes) (k : ℕ) (m' : SinkMeaning) (r : R
 took_on m bs k m' r m'' t g =
     let h : GaveAll m' (drop k bs) r m'' = gave_same m' (lent k bs) (drop k bs) r m'' (take_rest bs k) g in
     gave_same m (take k bs ++ drop k bs) bs r m'' (take-append-drop k bs) (gave_on m (take k bs) (drop k bs) r m' m'' (took_all m bs k m' t) h)
-
--- a gift that was refused is all that comes
-pub refused_all : (m : SinkMeaning) (bs : Bytes) (e : Full) (m' : SinkMeaning) (r : Result (Unit {0}) Full) → Refused m bs e m' → r ≡ Err e → GaveAll m bs r m'
-refused_all m bs e m' r s re =
-    let n : min (length bs) m.room ≡ 0 = omega (arith, s.none) in
-    record {
-      answer = re ∙ ap Err s.why ∙ sym (ap (λ b. all_or b (full m.stop)) (lt-leb (length bs) m.room (omega (arith, s.given, s.none))));
-      after = s.after ∙ with_none m bs ∙ ap (λ k. with k bs m) (sym n);
-    }

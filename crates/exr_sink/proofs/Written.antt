@@ -1,5 +1,5 @@
 -- Giving bytes after questions.
-use Rattle.std.proofs.Common.{◌≡◌, ℕ, Bool, true, false, leb, ◌++◌, length, Some, None, Err, Option, Result, sym, refl, ap, ◌∙◌, subst}
+use Rattle.std.proofs.Common.{◌≡◌, ℕ, Bool, true, false, leb, ◌++◌, length, None, Err, Option, Result, sym, refl, ap, ◌∙◌, subst}
 use Rattle.exr_error.specs.declared.refusal.Refusal.{Refusal}
 use Rattle.exr_error.specs.declared.stop.Full.{Full}
 use Rattle.layout.specs.Numbers.{Bytes}
@@ -7,7 +7,7 @@ use Rattle.layout.specs.Streams.{SinkMeaning}
 use Rattle.exr_source.specs.Whole.{all_or}
 use Rattle.exr_sink.specs.Gifts.{full, GaveAll}
 use Rattle.exr_sink.proofs.Runs.{gave_short}
-use Rattle.exr_sink.specs.Writing.{refused_by, taken_or, as_refusal, Wrote}
+use Rattle.exr_sink.specs.Writing.{taken_or, as_refusal, Wrote}
 
 as_refusal_lem : (t : Bool) (s : ℕ) → as_refusal (all_or t (full s)) ≡ taken_or t s
 as_refusal_lem true s = refl
@@ -19,10 +19,6 @@ pub wrote_given : (o : Option ℕ) (m : SinkMeaning) (bs : Bytes) (r : Result (U
 wrote_given o m bs r q m' none g e =
     subst (λ (p : Option ℕ). Wrote p m bs q m') (sym none)
     (e ∙ ap as_refusal g.answer ∙ as_refusal_lem (leb (length bs) m.room) m.stop, g.after)
-
--- a question is answered no, and nothing was given
-pub wrote_refused : (o : Option ℕ) (m : SinkMeaning) (bs : Bytes) (q : Result (Unit {0}) Refusal) (k : ℕ) → o ≡ Some k → refused_by q ≡ Some k → Wrote o m bs q m
-wrote_refused o m bs q k some e = subst (λ (p : Option ℕ). Wrote p m bs q m) (sym some) (e, refl)
 
 -- a sink that stopped within the first bytes stopped within all of them
 pub gave_stop : {m : SinkMeaning} {xs : Bytes} (bs : Bytes) {e : Full} {m' : SinkMeaning} {r : Result (Unit {0}) Full} → r ≡ Err e → GaveAll m xs (Err e) m' → GaveAll m (xs ++ bs) r m'

@@ -2,6 +2,8 @@ ghost use Rattle.std.specs.Prelude.{◌≡◌, ◌≤◌, length};
 
 pub mod filling;
 
+// A buffer with a count beside it, by a rule of the project: the memory is lent, and its owner finds
+// in it what was written.
 /// A lent buffer, written from its start. It takes as many bytes as it has,
 /// stays as it was behind the bytes taken, and stops with 1.
 #[derive(Drop)]

@@ -18,9 +18,13 @@ abbrev pub rounding_of : RoundingMode → layout.RoundingMode
 rounding_of Down = layout.Down
 rounding_of Up = layout.Up
 
+-- the mode byte of a level mode and a rounding mode
+abbrev pub mode_number : LevelMode → RoundingMode → ℕ
+mode_number level rounding = mode_byte (level_of level) (rounding_of rounding)
+
 -- width, height and mode byte
 abbrev pub tile_numbers : TileDescription → List ℕ
-tile_numbers t = t.tile_size.0 ∷ t.tile_size.1 ∷ mode_byte (level_of t.level_mode) (rounding_of t.rounding_mode) ∷ []
+tile_numbers t = t.tile_size.0 ∷ t.tile_size.1 ∷ mode_number t.level_mode t.rounding_mode ∷ []
 
 -- the question on the sides of a tile description to be written: at most 4294967295
 abbrev pub sides_ask : Vec2 ℕ → Option ℕ

@@ -1,8 +1,7 @@
 ghost use Rattle.std.specs.Prelude.{◌≡◌, [], ◌∷◌, refl};
-ghost use Rattle.layout.specs.Enumerations.{mode_byte};
 ghost use Rattle.layout.specs.Kinds.{is_mode, mode};
 ghost use Rattle.exr_code.specs.Codes.{Decodes};
-ghost use Rattle.exr_tile.specs.Tiles.{level_of, rounding_of};
+ghost use Rattle.exr_tile.specs.Tiles.{mode_number};
 
 use crate::level_mode::LevelMode;
 use exr_code::coded::Coded;
@@ -19,7 +18,7 @@ pub(crate) struct Modes {
 
 /// The mode byte.
 impl From<Modes> for u8 {
-    ghost from_gives = { λ m code. code ≡ mode_byte (level_of m.level) (rounding_of m.rounding) };
+    ghost from_gives = { λ m code. code ≡ mode_number m.level m.rounding };
 
     fn from(modes: Modes) -> u8 {
         let level = match modes.level {
@@ -39,7 +38,7 @@ impl From<Modes> for u8 {
 impl TryFrom<u8> for Modes {
     type Error = Refusal;
 
-    ghost try_from_gives = { Decodes (λ m. mode_byte (level_of m.level) (rounding_of m.rounding)) is_mode 7 (λ _. Unit {0}) };
+    ghost try_from_gives = { Decodes (λ m. mode_number m.level m.rounding) is_mode 7 (λ _. Unit {0}) };
 
     fn try_from(code: u8) -> Result<Modes, Refusal> {
         let (level, rounding) = match code {
@@ -58,7 +57,7 @@ impl TryFrom<u8> for Modes {
 impl Coded for Modes {
     ghost kind = { mode ∷ [] };
 
-    ghost code_of = { λ m. mode_byte (level_of m.level) (rounding_of m.rounding) };
+    ghost code_of = { λ m. mode_number m.level m.rounding };
 
     ghost listed = { is_mode };
 

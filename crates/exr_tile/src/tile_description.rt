@@ -1,11 +1,10 @@
 ghost use Rattle.std.specs.Prelude.{◌≡◌, ◌≤◌, [], ◌∷◌};
-ghost use Rattle.layout.specs.Enumerations.{mode_byte};
 ghost use Rattle.layout.specs.Fields.{field_bytes, fields, size};
 ghost use Rattle.layout.specs.Kinds.{fields_of, tiledesc};
 ghost use Rattle.exr_value.specs.Seen.{seen_by};
 ghost use Rattle.exr_sink.specs.Gifts.{GaveAll};
 ghost use Rattle.exr_sink.specs.Writing.{Wrote};
-ghost use Rattle.exr_tile.specs.Tiles.{level_of, rounding_of, sides_ask, tile_numbers};
+ghost use Rattle.exr_tile.specs.Tiles.{mode_number, sides_ask, tile_numbers};
 
 use crate::level_mode::LevelMode;
 use crate::modes::Modes;
@@ -32,7 +31,7 @@ pub struct TileDescription {
 
 /// Gives two sides and two modes to a sink.
 fn write_parts<W: Sink>(sink: &mut W, sides: Vec2<u32>, modes: Modes) -> Result<(), Full>
-    ensures takes { GaveAll (W.means sink.old) (field_bytes (fields_of tiledesc) (sides.0 ∷ sides.1 ∷ mode_byte (level_of modes.level) (rounding_of modes.rounding) ∷ [])) result (W.means sink.new) }
+    ensures takes { GaveAll (W.means sink.old) (field_bytes (fields_of tiledesc) (sides.0 ∷ sides.1 ∷ mode_number modes.level modes.rounding ∷ [])) result (W.means sink.new) }
     ensures kept { W.keeps sink.old sink.new }
 {
     write_slice_le(sink, &[sides.0, sides.1])?;

@@ -44,6 +44,7 @@ impl TimeCode {
     }
 }
 
+// A function of its own: without it the check leaves `returns` of `TimeCode::read` open.
 /// The time code of its two words.
 fn of_words(time_and_flags: u32, user_data: u32) -> TimeCode
     ensures { time_of result ≡ code_of_words time_and_flags user_data }

@@ -14,9 +14,7 @@ use Rattle.layout.proofs.Keyed.{key_code_back, key_code_carried, key_code_there}
 use Rattle.exr_error.specs.declared.fault.Fault.{Fault}
 use Rattle.exr_error.specs.declared.refusal.Refusal.{Refusal}
 use Rattle.exr_error.specs.Refusals.{number_of}
-use Rattle.exr_read.specs.declared.read.Short.{Short}
-use Rattle.exr_read.specs.Fills.{short_fault}
-use Rattle.exr_read.proofs.Filling.{Whole, Cut}
+use Rattle.exr_read.proofs.Filling.{Whole}
 use Rattle.exr_value.specs.declared.key_code.KeyCode.{KeyCode}
 use Rattle.exr_value.specs.Seen.{seen_by}
 use Rattle.exr_value.specs.KeyCodes.{numbers_of, Fits, Taken, KeyCodesReadBack}
@@ -31,11 +29,6 @@ key_code_taken m buffer m' bytes k rest long each w e =
     let none : length rest ≡ 0 = omega (arith, n, ap length same, length-append (key_code_bytes (numbers_of k)) rest) in
     let all : bytes ≡ key_code_bytes (numbers_of k) = same ∙ ap (λ t. key_code_bytes (numbers_of k) ++ t) (nil_from_length rest none) ∙ append-nil (key_code_bytes (numbers_of k)) in
     (w.split ∙ ap (λ t. t ++ m'.bytes) all, w.stop)
-
--- where fewer came, they are told
-pub key_code_cut : (m : SourceMeaning) (buffer : Bytes) (s : Short) (m' : SourceMeaning) (r : Result KeyCode Fault) → length buffer ≡ 28 → Cut m buffer s m' → r ≡ Err (short_fault s) → Taken m r m'
-key_code_cut m buffer s m' r long c e =
-    subst (λ (x : Result KeyCode Fault). Taken m x m') (sym e) (omega (arith, long, c.less), ap short_fault c.why, c.left)
 
 -- such bytes always do
 key_code_read : (m : SourceMeaning) (buffer : Bytes) (m' : SourceMeaning) (bytes : Bytes) (q : ℕ) → length buffer ≡ 28 → Whole m buffer m' bytes → Err q ≡ integers 7 bytes → ⊥

@@ -34,6 +34,8 @@ pub struct KeyCode {
     pub perforations_per_count: i32,
 }
 
+// No trait joins the readers and writers of key codes, time codes, tile descriptions and boxes: each
+// has its own fields and questions, and a trait would share the names alone.
 impl KeyCode {
     /// How many bytes a key code has in a file: 28.
     pub fn byte_size() -> usize
@@ -74,7 +76,7 @@ impl KeyCode {
     {
         let mut bytes = [0u8; 28];
         read_exact(source, &mut bytes)?;
-        let (key_code, _) = KeyCode::read(&bytes).map_err(|refusal| refusal.at(0, 28))?;
+        let (key_code, _) = KeyCode::read(&bytes).map_err(|refusal| refusal.at(0, bytes.len()))?;
         Ok(key_code)
     }
 

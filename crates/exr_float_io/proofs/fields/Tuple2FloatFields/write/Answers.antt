@@ -9,10 +9,7 @@ returns-in_err-write-clause-takes g c =
     let bytes = bytes_joined g.A.FloatFields.parts g.B.FloatFields.parts _ (g.B.FloatFields.written c.args.self.1) (g.met.A.FloatFields.long c.args.self.0) in
     rw (p.1, p.2) (gave_same _ _ _ _ _ bytes (gave_short _ _ _ _ _ c.in_err-write.ensures.takes))
 
-pub returns : goal.returns
-returns g c =
+pub returns-clause-takes : goal.returns-clause-takes
+returns-clause-takes g c =
     let bytes = bytes_joined g.A.FloatFields.parts g.B.FloatFields.parts _ (g.B.FloatFields.written c.args.self.1) (g.met.A.FloatFields.long c.args.self.0) in
-    record {
-      takes = gave_same _ _ _ _ _ bytes (gave_on _ _ _ _ _ _ c.in_ok-write.ensures.takes c.write-2.ensures.takes);
-      kept = g.met.S.Sink.steady.on _ _ _ c.in_ok-write.ensures.kept c.write-2.ensures.kept;
-    }
+    gave_same _ _ _ _ _ bytes (gave_on _ _ _ _ _ _ c.in_ok-write.ensures.takes c.write-2.ensures.takes)
