@@ -14,6 +14,7 @@ use exr_sink::sink::Sink;
 use exr_value::fields::Field;
 use exr_vec2::Vec2;
 
+// A reader and a writer of its own: its four numbers are asked together.
 impl IntegerBounds {
     /// How many bytes a box has in a file: 16.
     pub fn byte_size() -> usize

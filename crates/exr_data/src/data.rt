@@ -5,7 +5,8 @@ ghost use Rattle.layout.specs.Numbers.{range};
 // type has its own bits. A macro may not write the impls.
 /// A number of `BYTE_SIZE` bytes, which reads back from them.
 pub trait Data: Copy {
-    // which values there are
+    // which values there are; a clause where it is needed and no law, since in a law a number is any number,
+    // also one too large for its type
     ghost fits: { Self → Type 0 };
 
     // a value by its bits, and the value that bits are

@@ -89,6 +89,7 @@ pub enum Error {
 }
 
 impl Refusal {
+    // A method and no `From`: the rules tell a refusal by its number, under this name.
     /// The refusal's number, from 1 to 30.
     pub fn number(self) -> u8
         ensures { result ≡ number_of self }

@@ -26,8 +26,8 @@ pub trait OfFloats: Copy {
         ensures { result ≡ floats_of self };
 }
 
-// A pair and a triple have two impls: each names its elements once, in the
-// order that its type has them.
+// A pair and a triple have an impl each, since no bound covers a struct and a
+// tuple; each goes through its elements' own.
 impl<T: OfFloats> OfFloats for Vec2<T> {
     type Floats = Vec2<T::Floats>;
 

@@ -15,6 +15,8 @@ use exr_sink::write::write_all;
 use exr_value::fields::Field;
 use exr_vec2::Vec2;
 
+// Sides beside the pixels that they measure: the fields are the ported crate's, and whether they fit is
+// asked when they are written.
 /// A small picture that resembles the image. Each pixel has four bytes: red,
 /// green, blue and alpha.
 #[derive(Clone, Copy, PartialEq, Eq)]

@@ -29,6 +29,7 @@ pub struct TileDescription {
     pub rounding_mode: RoundingMode,
 }
 
+// Two sides are read, asked and written here and in previews, each by one call of a generic function.
 /// Gives two sides and two modes to a sink.
 fn write_parts<W: Sink>(sink: &mut W, sides: Vec2<u32>, modes: Modes) -> Result<(), Full>
     ensures takes { GaveAll (W.means sink.old) (field_bytes (fields_of tiledesc) (sides.0 ∷ sides.1 ∷ mode_number modes.level modes.rounding ∷ [])) result (W.means sink.new) }
@@ -38,6 +39,7 @@ fn write_parts<W: Sink>(sink: &mut W, sides: Vec2<u32>, modes: Modes) -> Result<
     modes.write(sink)
 }
 
+// A reader and a writer of its own: its sides are asked, and its modes share a byte.
 impl TileDescription {
     /// How many bytes a tile description has in a file: 9.
     pub fn byte_size() -> usize

@@ -14,6 +14,7 @@ use exr_io::runs::write_slice_le;
 use exr_sink::sink::Sink;
 use exr_value::fields::Field;
 
+// A reader and a writer of its own: its numbers are packed into two words, and some are refused.
 impl TimeCode {
     /// How many bytes a time code has in a file: 8.
     pub fn byte_size() -> usize
@@ -52,6 +53,7 @@ fn of_words(time_and_flags: u32, user_data: u32) -> TimeCode
     TimeCode::from_tv60_time(time_and_flags, user_data)
 }
 
+// Two words, as `from_tv60_time` of the ported crate takes them.
 /// Gives two words to a sink.
 fn write_words<W: Sink>(sink: &mut W, time_and_flags: u32, user_data: u32) -> Result<(), Full>
     ensures takes { GaveAll (W.means sink.old) (field_bytes time_fields (time_and_flags ∷ user_data ∷ [])) result (W.means sink.new) }

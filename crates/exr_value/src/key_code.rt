@@ -80,6 +80,7 @@ impl KeyCode {
         Ok(key_code)
     }
 
+    // Its fields are named as in the ported crate, so here and in `read` they are listed once each.
     /// Gives its seven numbers to a sink, in the order of the fields.
     pub fn write<W: Sink>(&self, sink: &mut W) -> Result<(), Full>
         ensures takes { GaveAll (W.means sink.old) (key_code_bytes (numbers_of self.now)) result (W.means sink.new) }

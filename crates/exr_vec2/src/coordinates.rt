@@ -3,6 +3,7 @@ ghost use Rattle.std.specs.Prelude.{◌≡◌};
 
 use crate::Vec2;
 
+// Four names of the ported crate for two components: `width` and `height` call `x` and `y`.
 impl<T: Drop> Vec2<T> {
     /// The first component of this 2D vector.
     pub fn x(self) -> T

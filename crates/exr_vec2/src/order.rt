@@ -4,6 +4,7 @@ ghost use Rattle.exr_vec2.specs.Vectors.{Larger, Smaller};
 use crate::Vec2;
 use exr_number::Number;
 
+// `max` and `min` stay two functions, by the names of the ported crate: each is a call of std's.
 impl<T: Number> Vec2<T> {
     /// The vector with the larger of the first components and the larger of the second components.
     pub fn max(self, other: Self) -> Self

@@ -48,6 +48,8 @@ impl<S: Source> PeekRead<S> {
         }
     }
 
+    // Three contracts speak of the bytes and the stop of one meaning; each says another thing of them, so
+    // one definition of the two would only hide them.
     /// The byte that comes next, which is kept and still to come, or the stop.
     /// The meaning is unchanged.
     pub fn peek_u8(&mut self) -> Result<u8, Stop>
