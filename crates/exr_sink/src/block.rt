@@ -1,4 +1,4 @@
-ghost use Rattle.std.specs.Prelude.{◌≡◌, ◌-◌, [], length};
+ghost use Rattle.std.specs.Prelude.{◌≡◌, ◌-◌, ◌≤◌, [], length};
 ghost use Rattle.std.proofs.Common.{lit≤};
 ghost use Rattle.layout.specs.Streams.{sink_of};
 
@@ -14,6 +14,7 @@ pub const BLOCK_SIZE: usize = 4096;
 #[derive(Drop)]
 pub struct Block {
     bytes: ArrayVec<u8, BLOCK_SIZE>,
+    ghost within: { length bytes.items ≤ 4096 },
 }
 
 impl Block {
@@ -50,3 +51,9 @@ impl Sink for Block {
         Ok(part.len())
     }
 }
+
+/// Any block has taken at most 4,096 bytes, whatever was done with it. The body
+/// does nothing.
+pub fn blocks_are_bounded(block: &Block)
+    ensures { length block.now.bytes.items ≤ 4096 }
+{}
