@@ -28,15 +28,13 @@ impl<W: FloatWord> OfFloats for FloatBits<W> {
     ghost floats_of = { λ b. W.Float.value (W.bits b.bits) };
 
     fn from_floats(x: W::Float) -> FloatBits<W> {
-        let word = x.to_word();
         FloatBits {
-            bits: W::from_word(word),
+            bits: W::of_float(x),
         }
     }
 
     fn to_floats(self) -> W::Float {
-        let word = self.bits.to_word();
-        W::Float::from_word(word)
+        self.bits.to_float()
     }
 }
 
@@ -46,14 +44,15 @@ impl<W: FloatWord> FloatBits<W> {
     pub fn from_bits(bits: W) -> Self
         ensures { W.bits result.bits ≡ W.keeps (W.bits bits) }
     {
-        let word = bits.to_word();
-        FloatBits::from_floats(W::Float::from_word(word))
+        FloatBits {
+            bits: bits.one_nan(),
+        }
     }
 
     /// The bits as they are written.
     pub fn to_bits(self) -> W
         ensures { W.bits result ≡ W.keeps (W.bits self.bits) }
     {
-        FloatBits::from_bits(self.bits).bits
+        self.bits.one_nan()
     }
 }
