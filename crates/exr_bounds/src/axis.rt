@@ -11,7 +11,7 @@ const LIMIT: i32 = 1073741822;
 #[derive(Clone, Copy, PartialEq, Eq)]
 pub(crate) struct Axis {
     pub(crate) least: i32,
-    pub(crate) side: usize,
+    pub(crate) side: u32,
     ghost good: { axis_good least side ≡ true },
 }
 
@@ -23,10 +23,13 @@ impl Axis {
     pub(crate) fn new(least: i32, side: usize) -> Result<Self, Refusal>
         ensures { axis_seen result ≡ make_axis (least, side) }
     {
-        // `as` from u32 to usize here and below: std has no From for the pair
+        // `as` from u32 to usize here and below: std has no From for the pair; a side that is in range fits
         let begins = (-LIMIT..=LIMIT).contains(&least);
         if begins && 0 < side && side - 1 <= least.abs_diff(LIMIT) as usize {
-            Ok(Axis { least, side })
+            Ok(Axis {
+                least,
+                side: side as u32,
+            })
         } else {
             Err(Refusal::BoxOutOfRange)
         }
@@ -44,7 +47,7 @@ impl Axis {
         ensures { axis_seen result ≡ make_axis (self.least +ℤ by, self.side) }
     {
         let least = self.least.checked_add(by).ok_or(Refusal::BoxOutOfRange)?;
-        Axis::new(least, self.side)
+        Axis::new(least, self.side as usize)
     }
 
     /// The greatest place.

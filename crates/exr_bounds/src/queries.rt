@@ -18,7 +18,7 @@ impl IntegerBounds {
     pub fn size(self) -> Vec2<usize>
         ensures { result ≡ sides_of (box_of self) }
     {
-        Vec2(self.x.side, self.y.side)
+        Vec2(self.x.side as usize, self.y.side as usize)
     }
 
     /// The greatest corner, which belongs to the box.
@@ -41,7 +41,7 @@ impl IntegerBounds {
         ensures { result ≡ fits_in (box_of self) max_size }
     {
         max_size
-            .is_none_or(|most| self.x.side <= most.0 && self.y.side <= most.1)
+            .is_none_or(|most| self.x.side as usize <= most.0 && self.y.side as usize <= most.1)
             .then_some(())
     }
 
